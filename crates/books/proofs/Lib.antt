@@ -1,0 +1,6 @@
+mod Searches
+mod Duties
+pub mod Places
+mod Entries
+mod Steps
+mod Keeping

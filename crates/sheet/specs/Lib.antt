@@ -1,0 +1,4 @@
+pub mod Amounts
+pub mod Outcomes
+pub mod Requests
+pub mod Sheet
