@@ -3,8 +3,8 @@
 mod tests {
     use books::book::Book;
     use books::book::give_number;
-    use books::entry_book::EntryBook;
-    use books::entry_book::calls::EntryBookBook;
+    use entries::entry_book::EntryBook;
+    use entries::entry_book::calls::EntryBookBook;
     use protocol::note::Note;
     use protocol::refusal::Refusal;
     use protocol::refusal::RefusalDebug;

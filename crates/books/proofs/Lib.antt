@@ -1,6 +1,3 @@
+-- The lemmas that books share.
 mod Searches
-mod Duties
 pub mod Places
-mod Entries
-mod Steps
-mod Keeping

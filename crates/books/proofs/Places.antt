@@ -12,8 +12,8 @@ use Rattle.std.specs.declared.option.Option.the-variants.{Some, None}
 use Rattle.std.specs.shelf.Maps.{nth}
 use Rattle.std.proofs.shelf.Lists.{length-map, length-push, length-set, getD-push, getD-append-left, getD-set-same, getD-set-other, getD-map, map-set, set-getD}
 use Rattle.std.proofs.shelf.Maps.{nth-read, nth-past}
-use Rattle.std.proofs.shelf.Tests.{both-ways, cond-true, cond-false, cond-both, le-leb, lt-leb, leb-true, cases-lt, cases-eq, eqb-false}
-use Rattle.books.specs.Places.{place-where, at-place, Apart}
+use Rattle.std.proofs.shelf.Tests.{both-ways, cond-true, cond-false, cond-both, le-leb, lt-leb, leb-true, lt-ltb, le-ltb, cases-lt, cases-eq, eqb-false}
+use Rattle.books.specs.Places.{place-where, any-where, found-place, at-place, Apart}
 
 -- ---- reading by place
 
@@ -130,6 +130,16 @@ module _ {X : Type 0} where
 -- ---- the place of the first that passes
 
 module _ {X : Type 0} (test : X → Bool) where
+  pub found-some : (xs : List X) (i : ℕ) → i ≡ place-where test xs → i < length xs → Some i ≡ found-place test xs
+  found-some xs i e h =
+      let lt : place-where test xs < length xs = omega arith in
+      ap Some e ∙ sym (cond-true (any-where test xs) (Some (place-where test xs)) None (lt-ltb (place-where test xs) (length xs) lt))
+
+  pub found-none : (xs : List X) → place-where test xs ≡ length xs → None ≡ found-place test xs
+  found-none xs e =
+      let ge : length xs ≤ place-where test xs = omega arith in
+      sym (cond-false (any-where test xs) (Some (place-where test xs)) None (le-ltb (place-where test xs) (length xs) ge))
+
   pub place-bound : (xs : List X) → place-where test xs ≤ length xs
   place-bound [] = omega arith
   place-bound (x ∷ xs) =

@@ -1,26 +1,12 @@
--- The limits of the books, named once. Assumes nothing.
+-- A limit that the books share. Assumes nothing.
+use mathlib.Core.Bool.{Bool, _&&_}
 use Prim.Native.Nat.{ℕ}
+use lib.Dec.{leb}
 
--- the places of the entry book
-abbrev pub entry-places : ℕ
-entry-places = 32
-
--- the largest number of an entry or of a paper file; the smallest is 1
+-- the largest number of an entry or of a paper file
 abbrev pub max-number : ℕ
 max-number = 9999999
 
--- the largest price, freight or insurance, in cents
-abbrev pub max-amount : ℕ
-max-amount = 1000000000
-
--- the largest rate, in hundredths of a per cent
-abbrev pub max-rate : ℕ
-max-rate = 10000
-
--- the rate at which the duty is the whole value
-abbrev pub whole-rate : ℕ
-whole-rate = 10000
-
--- the largest duty, in cents
-abbrev pub max-duty : ℕ
-max-duty = 3000000000
+-- 1 to 9,999,999
+abbrev pub is-number : ℕ → Bool
+is-number n = leb 1 n && leb n max-number

@@ -6,7 +6,7 @@ use Prim.Native.Nat.{ℕ, zero, suc, _-_, _<_}
 use lib.Dec.{leb, ltb}
 use lib.ListN.{length, getD}
 use Rattle.std.specs.declared.option.Option.{Option}
-use Rattle.std.specs.declared.option.Option.the-variants.{None}
+use Rattle.std.specs.declared.option.Option.the-variants.{Some, None}
 use Rattle.std.specs.shelf.Maps.{nth}
 
 -- how many elements stand before the first that passes the test: the length if none does
@@ -17,6 +17,10 @@ place-where test (x ∷ xs) = cond (test x) zero (suc (place-where test xs))
 -- whether any element passes the test
 abbrev pub any-where : {X : Type 0} → (X → Bool) → List X → Bool
 any-where test xs = ltb (place-where test xs) (length xs)
+
+-- the place of the first element that passes the test, counted from 0
+abbrev pub found-place : {X : Type 0} → (X → Bool) → List X → Option ℕ
+found-place test xs = cond (any-where test xs) (Some (place-where test xs)) None
 
 -- the first element that passes the test
 abbrev pub first-where : {X : Type 0} → (X → Bool) → List X → Option X

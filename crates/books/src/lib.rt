@@ -1,10 +1,4 @@
-// What a book is, and the book of customs entries.
+// What a book is, and reading a list by place and by a test.
 pub mod book;
-pub mod customs_entry;
-pub mod entry_act;
-pub mod entry_book;
-pub mod entry_verdict;
-pub mod examples;
-pub mod laws;
 pub mod limits;
 pub mod search;

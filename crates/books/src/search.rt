@@ -4,7 +4,7 @@ ghost use mathlib.Core.Path.{_≡_};
 ghost use Prim.Native.Nat.{_<_};
 ghost use lib.ListN.{length};
 ghost use Rattle.std.specs.Options.{Cases};
-ghost use Rattle.books.specs.Places.{place-where, first-where, count-where, at-place};
+ghost use Rattle.books.specs.Places.{place-where, found-place, first-where, count-where, at-place};
 
 // A test that each element passes or fails.
 pub trait Test<T> {
@@ -16,7 +16,8 @@ pub trait Test<T> {
 
 // The place of the first element that passes, counted from 0.
 pub fn first_place<T, Q: Test<T>>(items: &[T], test: &Q) -> Option<usize>
-    ensures { λ r. ⌜ Cases r (place-where (passed (now (test .entry))) (now (items .entry)) ≡ length (now (items .entry))) (λ i. (i ≡ place-where (passed (now (test .entry))) (now (items .entry))) × (i < length (now (items .entry)))) ⌝ }
+    ensures value { λ r. ⌜ r ≡ found-place (passed (now (test .entry))) (now (items .entry)) ⌝ }
+    ensures cases { λ r. ⌜ Cases r (place-where (passed (now (test .entry))) (now (items .entry)) ≡ length (now (items .entry))) (λ i. (i ≡ place-where (passed (now (test .entry))) (now (items .entry))) × (i < length (now (items .entry)))) ⌝ }
 {
     for (i, item) in items.iter().enumerate() {
         if test.passes(item) {

@@ -1,1 +1,4 @@
+-- The lemmas of the claim book.
 mod Once
+mod Keeping
+mod Making

@@ -10,7 +10,7 @@ use Rattle.std.specs.declared.option.Option.{Option}
 use Rattle.std.specs.declared.option.Option.the-variants.{Some, None}
 use Rattle.protocol.specs.Limits.{max-stations}
 use Rattle.protocol.specs.declared.note.Note.{Note}
-use Rattle.books.specs.EntryBook.{is-number}
+use Rattle.books.specs.Limits.{is-number}
 use Rattle.books.specs.Places.{place-where, any-where, first-where, count-where, at-place}
 use Rattle.claims.specs.Limits.{claim-places}
 use Rattle.claims.specs.declared.claim.Claim.{Claim}

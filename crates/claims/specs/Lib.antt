@@ -1,3 +1,5 @@
+-- The definitions of the claim book.
 pub mod Limits
 pub mod ClaimBook
 pub mod ClaimState
+pub mod ClaimLaws

@@ -42,9 +42,9 @@ impl ClaimAct {
 
 // Whether a place holds the claim of this file.
 #[derive(Clone, Copy)]
-pub struct OfFile(pub u32);
+pub(crate) struct OfFile(pub u32);
 
-pub impl Test<Option<Claim>> for OfFile as OfFileTest {
+pub(crate) impl Test<Option<Claim>> for OfFile as OfFileTest {
     ghost passed = { λ q place. holds-file (q .0) place };
 
     fn passes(&self, item: &Option<Claim>) -> bool {
@@ -57,9 +57,9 @@ pub impl Test<Option<Claim>> for OfFile as OfFileTest {
 
 // Whether a place holds this very claim.
 #[derive(Clone, Copy)]
-pub struct OfClaim(pub Claim);
+pub(crate) struct OfClaim(pub Claim);
 
-pub impl Test<Option<Claim>> for OfClaim as OfClaimTest {
+pub(crate) impl Test<Option<Claim>> for OfClaim as OfClaimTest {
     ghost passed = { λ q place. holds-claim (q .0) place };
 
     fn passes(&self, item: &Option<Claim>) -> bool {
@@ -72,9 +72,9 @@ pub impl Test<Option<Claim>> for OfClaim as OfClaimTest {
 
 // Whether a place is free.
 #[derive(Clone, Copy)]
-pub struct IsFree;
+pub(crate) struct IsFree;
 
-pub impl Test<Option<Claim>> for IsFree as IsFreeTest {
+pub(crate) impl Test<Option<Claim>> for IsFree as IsFreeTest {
     ghost passed = { λ _ place. is-free place };
 
     fn passes(&self, item: &Option<Claim>) -> bool {
@@ -84,9 +84,9 @@ pub impl Test<Option<Claim>> for IsFree as IsFreeTest {
 
 // Whether a place holds a claim.
 #[derive(Clone, Copy)]
-pub struct IsClaimed;
+pub(crate) struct IsClaimed;
 
-pub impl Test<Option<Claim>> for IsClaimed as IsClaimedTest {
+pub(crate) impl Test<Option<Claim>> for IsClaimed as IsClaimedTest {
     ghost passed = { λ _ place. is-claimed place };
 
     fn passes(&self, item: &Option<Claim>) -> bool {

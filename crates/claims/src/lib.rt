@@ -2,4 +2,5 @@
 pub mod claim;
 pub mod claim_book;
 pub mod claim_verdict;
+pub mod laws;
 pub mod limits;

@@ -14,7 +14,7 @@ use Rattle.std.proofs.shelf.Lists.{at-drop-more, at-drop-all}
 use Rattle.std.proofs.shelf.Maps.{nth-getD, nth-past}
 use Rattle.std.proofs.shelf.Tests.{cond-true, cond-false, le-leb, lt-leb, cases-lt}
 use Rattle.books.specs.Places.{at-place}
-use Rattle.books.specs.declared.customs_entry.CustomsEntry.{CustomsEntry}
+use Rattle.entries.specs.declared.customs_entry.CustomsEntry.{CustomsEntry}
 use Rattle.sheet.specs.Sheet.{sheet, sheet-part}
 
 -- ---- what a place that holds something tells

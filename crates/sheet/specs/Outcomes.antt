@@ -2,8 +2,8 @@
 use mathlib.Core.List.{List}
 use Prim.Native.Nat.{ℕ}
 use lib.Chars.{codes}
-use Rattle.books.specs.declared.entry_verdict.EntryVerdict.{EntryVerdict}
-use Rattle.books.specs.declared.entry_verdict.EntryVerdict.the-variants.{Taken, Malformed, OpenedBefore, NoPlace, UnknownEntry, Closed, GivenBefore, NoFreight}
+use Rattle.entries.specs.declared.entry_verdict.EntryVerdict.{EntryVerdict}
+use Rattle.entries.specs.declared.entry_verdict.EntryVerdict.the-variants.{Taken, Malformed, OpenedBefore, NoPlace, UnknownEntry, Closed, GivenBefore, NoFreight}
 
 abbrev pub outcome : EntryVerdict → List ℕ
 outcome Taken = codes "taken"

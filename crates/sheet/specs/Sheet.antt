@@ -7,7 +7,7 @@ use lib.Dec.{eqb}
 use Rattle.std.specs.Written.{decimal}
 use Rattle.std.specs.declared.option.Option.{Option}
 use Rattle.std.specs.declared.option.Option.the-variants.{Some, None}
-use Rattle.books.specs.declared.customs_entry.CustomsEntry.{CustomsEntry}
+use Rattle.entries.specs.declared.customs_entry.CustomsEntry.{CustomsEntry}
 use Rattle.sheet.specs.Amounts.{amount, given, rate}
 
 -- how far the duty has come

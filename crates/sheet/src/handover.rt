@@ -5,12 +5,13 @@ ghost use Rattle.std.specs.Of.String.{string-bytes};
 ghost use Rattle.std.specs.Of.Vec.{vec-items};
 ghost use Rattle.std.specs.Vec.{made};
 ghost use Rattle.std.specs.declared.result.Result.the-variants.{Ok, Err};
-ghost use Rattle.books.specs.EntryBook.{entry-of};
+ghost use Rattle.entries.specs.EntryBook.{entry-of};
+ghost use Rattle.entries.specs.EntryState.{entries-of};
 ghost use Rattle.sheet.specs.Sheet.{is-filed, sheet, sheet-part, duty-in, filed-with};
 use crate::line::SheetLine;
 use crate::line::SheetLineDisplay;
-use books::customs_entry::CustomsEntry;
-use books::entry_book::EntryBook;
+use entries::customs_entry::CustomsEntry;
+use entries::entry_book::EntryBook;
 use std::alloc::AllocError;
 use std::alloc::Global;
 
@@ -45,7 +46,7 @@ fn add_entry(
 
 // The entries that are not filed yet, the newest on top, a line for each.
 pub fn handover_sheet(heap: Global, book: &EntryBook, filed: &[u32]) -> Result<String, AllocError>
-    ensures { λ r. ⌜ made r (λ text. string-bytes text ≡ sheet (now (filed .entry)) (vec-items (now (book .entry) .entries))) ⌝ }
+    ensures { λ r. ⌜ made r (λ text. string-bytes text ≡ sheet (now (filed .entry)) (entries-of (now (book .entry)))) ⌝ }
 {
     let mut text = String::new(heap);
     let mut place = book.count();
@@ -62,7 +63,7 @@ pub fn file_entry(
     filed: &mut Vec<u32>,
     number: u32,
 ) -> Result<Option<u32>, AllocError>
-    ensures { λ r. ⌜ elim r [ Ok duty ↦ (duty ≡ duty-in (entry-of number (vec-items (now (book .entry) .entries)))) × (vec-items (now (filed .exit)) ≡ filed-with duty number (vec-items (now (filed .entry)))) | Err _ ↦ vec-items (now (filed .exit)) ≡ vec-items (now (filed .entry)) ] ⌝ }
+    ensures { λ r. ⌜ elim r [ Ok duty ↦ (duty ≡ duty-in (entry-of number (entries-of (now (book .entry))))) × (vec-items (now (filed .exit)) ≡ filed-with duty number (vec-items (now (filed .entry)))) | Err _ ↦ vec-items (now (filed .exit)) ≡ vec-items (now (filed .entry)) ] ⌝ }
 {
     let Some(entry) = book.find(number) else {
         return Ok(None);

@@ -7,7 +7,7 @@ use crate::amount::Given;
 use crate::amount::GivenDisplay;
 use crate::amount::Rate;
 use crate::amount::RateDisplay;
-use books::customs_entry::CustomsEntry;
+use entries::customs_entry::CustomsEntry;
 use std::fmt;
 
 // How far an entry's duty has come.

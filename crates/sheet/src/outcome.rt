@@ -1,7 +1,7 @@
 // What a book's verdict is in words.
 ghost use Rattle.std.specs.declared.option.Option.the-variants.{Some};
 ghost use Rattle.sheet.specs.Outcomes.{outcome};
-use books::entry_verdict::EntryVerdict;
+use entries::entry_verdict::EntryVerdict;
 use std::fmt;
 
 #[derive(Clone, Copy)]

@@ -1,7 +1,7 @@
 // The week of entry 70 at one station, from Monday's opening to Friday's filing.
 use books::book::Book;
-use books::entry_book::EntryBook;
-use books::entry_book::calls::EntryBookBook;
+use entries::entry_book::EntryBook;
+use entries::entry_book::calls::EntryBookBook;
 use protocol::note::Note;
 use sheet::amount::Amount;
 use sheet::amount::AmountDisplay;

@@ -1,3 +1,4 @@
+-- That the place is read, and nothing outside.
 use Rattle.books.proofs.Places.{at-within, at-outside}
 use Rattle.books.proofs.search.at_place.Needs as need
 

@@ -1,3 +1,4 @@
+-- That free places hold no file twice.
 use mathlib.Core.Path.{_≡_, subst}
 use borrow.Author.Needs.{needs}
 use Rattle.std.specs.Of.Vec.{vec-items}

@@ -1,0 +1,3 @@
+-- The lemmas of the entry book.
+pub mod Duties
+pub mod Entries

@@ -1,0 +1,3 @@
+-- The lemmas of the entry book's laws.
+mod Steps
+mod Keeping

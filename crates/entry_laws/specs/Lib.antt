@@ -1,0 +1,3 @@
+-- The laws of the entry book, and worked examples.
+pub mod EntryLaws
+pub mod EntryExamples
