@@ -7,14 +7,14 @@ use protocol::limits::MAX_STATIONS;
 use protocol::note::Note;
 
 // The station has the paper file.
-#[derive(Clone, Copy, PartialEq, Eq, Debug)]
+#[derive(Clone, Copy)]
 pub struct Claim {
     pub file: u32,
     pub station: u8,
 }
 
 // Makes a claim, or releases it.
-#[derive(Clone, Copy, PartialEq, Eq, Debug)]
+#[derive(Clone, Copy)]
 pub enum ClaimAct {
     Make(Claim),
     Release(Claim),

@@ -11,7 +11,7 @@ use books::search::Test;
 
 // An entry has a price and a rate from its opening on; freight, insurance and duty are absent until given.
 // Amounts are in cents, the rate in hundredths of a per cent. An entry that has its duty is closed.
-#[derive(Clone, Copy, PartialEq, Eq, Debug)]
+#[derive(Clone, Copy)]
 pub struct CustomsEntry {
     pub number: u32,
     pub price: u32,

@@ -5,12 +5,12 @@ ghost use Rattle.std.specs.Options.{Cases};
 ghost use Rattle.books.specs.Limits.{is-number};
 ghost use Rattle.entries.specs.EntryBook.{entry-act, lawful-act};
 use crate::limits::MAX_AMOUNT;
-use books::limits::MAX_NUMBER;
 use crate::limits::MAX_RATE;
+use books::limits::MAX_NUMBER;
 use protocol::note::Note;
 
 // Opens an entry, gives its freight or its insurance, or closes it.
-#[derive(Clone, Copy, PartialEq, Eq, Debug)]
+#[derive(Clone, Copy)]
 pub enum EntryAct {
     Open { price: u32, rate: u32 },
     Freight(u32),

@@ -2,7 +2,7 @@
 ghost use Rattle.entries.specs.EntryBook.{entry-verdict-number};
 use books::book::Verdict;
 
-#[derive(Clone, Copy, PartialEq, Eq, Debug)]
+#[derive(Clone, Copy)]
 pub enum EntryVerdict {
     Taken,
     // another kind of note, a figure out of range, or not 0 where 0 is due

@@ -1,0 +1,4 @@
+pub mod Journal
+pub mod Peers
+pub mod Core
+pub mod Settle

@@ -1,0 +1,5 @@
+pub mod Parts
+pub mod Queues
+pub mod Posts
+pub mod Same
+pub mod LineSound

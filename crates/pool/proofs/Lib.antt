@@ -1,0 +1,4 @@
+pub mod Pools
+pub mod Removals
+pub mod Room
+pub mod Receivers

@@ -1,0 +1,3 @@
+// The wire that keeps each frame once.
+pub mod place;
+pub mod pool_wire;

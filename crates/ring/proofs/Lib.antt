@@ -1,0 +1,4 @@
+pub mod Same
+pub mod Calls
+pub mod Making
+pub mod Questions

@@ -1,0 +1,2 @@
+// A ring of stations: its six calls, and runs of calls.
+pub mod ring;

@@ -1,0 +1,4 @@
+pub mod Changes
+pub mod Calls
+pub mod Made
+pub mod Looks

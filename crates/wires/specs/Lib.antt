@@ -1,0 +1,4 @@
+pub mod Lines
+pub mod Calls
+pub mod Making
+pub mod Look
