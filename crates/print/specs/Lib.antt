@@ -1,0 +1,3 @@
+pub mod Overlay
+pub mod Pieces
+pub mod PrintLines

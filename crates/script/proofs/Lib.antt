@@ -1,0 +1,6 @@
+mod Decimal
+mod Cuts
+mod Args
+mod Commands
+mod Reading
+mod Texts
