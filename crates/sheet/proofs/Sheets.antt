@@ -11,47 +11,24 @@ use Rattle.std.specs.declared.option.Option.{Option}
 use Rattle.std.specs.declared.option.Option.the-variants.{Some, None}
 use Rattle.std.specs.shelf.Maps.{nth}
 use Rattle.std.proofs.shelf.Lists.{at-drop-more, at-drop-all}
-use Rattle.std.proofs.shelf.Maps.{nth-getD, nth-past}
-use Rattle.std.proofs.shelf.Tests.{cond-true, cond-false, le-leb, lt-leb, cases-lt}
+use Rattle.std.proofs.shelf.Tests.{cond-true, le-leb, cases-lt}
 use Rattle.books.specs.Places.{at-place}
+use Rattle.books.proofs.Places.{at-nth, nth-reads}
 use Rattle.entries.specs.declared.customs_entry.CustomsEntry.{CustomsEntry}
 use Rattle.sheet.specs.Sheet.{sheet, sheet-part}
-
--- ---- what a place that holds something tells
 
 nth-held : {X : Type 0} (xs : List X) (i : ℕ) → i < length xs → None ≡ nth xs i → ⊥
 nth-held [] i h e = absurd (omega arith)
 nth-held (x ∷ xs) zero h e = grind arith
 nth-held (x ∷ xs) (suc i) h e = nth-held xs i (omega arith) e
 
-module _ {X : Type 0} (xs : List X) (p : ℕ) where
-  first-place : (x : X) → Some x ≡ at-place p xs → 1 ≤ p
-  first-place x is =
-      ⊎-elim
-      (λ (low : p < 1). let n : Some x ≡ None = is ∙ cond-false (leb 1 p) (nth xs (p - 1)) None (lt-leb 1 p low) in grind arith)
-      (λ (high : 1 ≤ p). high)
-      (cases-lt p 1)
-
-  at-nth : (x : X) → Some x ≡ at-place p xs → nth xs (p - 1) ≡ Some x
-  at-nth x is = sym (is ∙ cond-true (leb 1 p) (nth xs (p - 1)) None (le-leb 1 p (first-place x is)))
-
-  within : (x : X) → Some x ≡ at-place p xs → p - 1 < length xs
-  within x is =
-      ⊎-elim
-      (λ (low : p - 1 < length xs). low)
-      (λ (past : length xs ≤ p - 1). let n : Some x ≡ None = sym (at-nth x is) ∙ nth-past xs (p - 1) past in grind arith)
-      (cases-lt (p - 1) (length xs))
-
-  at-getD : (x : X) → Some x ≡ at-place p xs → getD xs (p - 1) x ≡ x
-  at-getD x is = let e : Some (getD xs (p - 1) x) ≡ Some x = sym (nth-getD xs (p - 1) x (within x is)) ∙ at-nth x is in grind arith
-
-  -- within the list, only place 0 holds nothing
-  pub empty-place : None ≡ at-place p xs → p ≤ length xs → p ≡ 0
-  empty-place is high =
-      ⊎-elim
-      (λ (low : p < 1). omega arith)
-      (λ (some : 1 ≤ p). absurd (nth-held xs (p - 1) (omega arith) (is ∙ cond-true (leb 1 p) (nth xs (p - 1)) None (le-leb 1 p some))))
-      (cases-lt p 1)
+-- within the list, only place 0 holds nothing
+pub empty-place : {X : Type 0} (xs : List X) (p : ℕ) → None ≡ at-place p xs → p ≤ length xs → p ≡ 0
+empty-place xs p is high =
+    ⊎-elim
+    (λ (low : p < 1). omega arith)
+    (λ (some : 1 ≤ p). absurd (nth-held xs (p - 1) (omega arith) (is ∙ cond-true (leb 1 p) (nth xs (p - 1)) None (le-leb 1 p some))))
+    (cases-lt p 1)
 
 -- ---- the sheet
 
@@ -61,8 +38,9 @@ module _ (filed : List ℕ) (es : List CustomsEntry) where
 
   pub sheet-more : (p : ℕ) (x : CustomsEntry) → Some x ≡ at-place p es → sheet filed (drop (p - 1) es) ≡ sheet filed (drop p es) ++ sheet-part filed x
   sheet-more p x is =
-      let one = first-place es p x is in
-      let next : p - 1 + 1 ≡ p = omega arith in
-      at-drop-more (sheet filed) es (p - 1) x (within es p x is)
+      let at = at-nth p es x (sym is) in
+      let read = nth-reads es (p - 1) x x (at .1) in
+      let next : p - 1 + 1 ≡ p = omega (arith, at .0) in
+      at-drop-more (sheet filed) es (p - 1) x (read .0)
       ∙ ap (λ k. sheet filed (drop k es) ++ sheet-part filed (getD es (p - 1) x)) next
-      ∙ ap (λ y. sheet filed (drop p es) ++ sheet-part filed y) (at-getD es p x is)
+      ∙ ap (λ y. sheet filed (drop p es) ++ sheet-part filed y) (read .1)

@@ -76,7 +76,7 @@ impl Office {
             sender: 0,
             end: (0, 0),
         };
-        let places = vec![in heap; blank; 3 * LINE_PLACES]?;
+        let places = vec![in heap; blank; STATIONS as usize * LINE_PLACES]?;
         let Ok(wire) = LineWire::new(STATIONS, places) else {
             return Err("no wire".into());
         };
