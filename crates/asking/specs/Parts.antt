@@ -5,8 +5,7 @@ use Rattle.protocol.specs.declared.note.Note.{Note}
 use Rattle.protocol.specs.declared.entry.Entry.{Entry}
 use Rattle.journal.specs.declared.state.State.{State}
 use Rattle.journal.specs.declared.peer.Peer.{Peer}
-use Rattle.books.specs.Places.{at_place}
-use Rattle.journal.specs.Journal.{end_of}
+use Rattle.journal.specs.Journal.{entry_at, end_of}
 use Rattle.journal.specs.Settle.{view}
 use Rattle.station.specs.Model.{Model}
 use Rattle.station.specs.Sound.{peer_of}
@@ -20,7 +19,7 @@ module _ {S : Type 0} where
 
   -- the entry at a place, counted from 1; none outside the journal
   abbrev pub entry_of : ℕ → Model S → Option Entry
-  entry_of place x = at_place place x.core.journal
+  entry_of place x = entry_at x.core.journal place
 
   abbrev pub end_of_journal : Model S → ℕ × ℕ
   end_of_journal x = end_of x.core.journal

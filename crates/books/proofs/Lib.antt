@@ -1,5 +1,3 @@
 -- The lemmas that books share.
 mod Searches
-pub mod Nth
 pub mod Places
-pub mod Feeding

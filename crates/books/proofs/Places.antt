@@ -1,9 +1,9 @@
 -- What stands at a place of a list, and numbers of which none stands twice, for elements of any type. Assumes nothing.
-use Rattle.std.proofs.Common.{◌≡◌, ℕ, zero, suc, ◌-◌, ◌<◌, ◌≤◌, Bool, true, false, eqb, leb, ◌⊎◌, List, [], ◌∷◌, ◌++◌, map, length, get_or, set, Some, None, Option, sym, refl, ap, ◌∙◌, ⊎_elim, arith}
+use Rattle.std.proofs.Common.{◌≡◌, ℕ, zero, suc, ◌-◌, ◌<◌, ◌≤◌, Bool, true, false, eqb, leb, ◌⊎◌, List, [], ◌∷◌, ◌++◌, map, length, get_or, set, Some, None, Option, sym, refl, ap, ◌∙◌, subst, inl, inr, ⊎_elim, arith}
 use Rattle.std.specs.List.{slice_get}
-use Rattle.std.proofs.lemmas.List.{length-map, length_push, get_or_push, get_or_append_left, get_or-map, map-set, set-get_or}
+use Rattle.std.proofs.lemmas.List.{length-map, length_push, length-set, get_or_push, get_or_append_left, get_or-set_same, get_or-set_other, get_or-map, map-set, set-get_or}
 use Rattle.std.proofs.lemmas.Option.{slice_get_read, slice_get_past}
-use Rattle.std.proofs.lemmas.Bool.{both_ways, cond-true, cond-false, cond_both, le-leb, lt-leb, leb-true, lt-ltb, le-ltb, cases_lt, eqb-false}
+use Rattle.std.proofs.lemmas.Bool.{both_ways, cond-true, cond-false, cond_both, le-leb, lt-leb, leb-true, lt-ltb, le-ltb, cases_lt, cases_eq, eqb-false}
 use Rattle.books.specs.Places.{place_where, any_where, found_place, at_place, Apart}
 
 -- ---- reading by place
@@ -38,6 +38,21 @@ module _ {X : Type 0} (test : X → Bool) where
       cond_both (test x) 0 (suc (place_where test xs)) (λ (n : ℕ). n ≡ suc (length xs) → test (get_or xs k d) ≡ false) (λ t z. absurd (omega arith))
       (λ f z. none_passes xs k d (omega arith) (omega arith)) e
 
+-- ---- what holds of each element
+
+module _ {X : Type 0} (P : X → Type 0) (d : X) (xs : List X) (each : (k : ℕ) → k < length xs → P (get_or xs k d)) (x : X) (here : P x) where
+  pub each_push : (k : ℕ) → k < length (xs ++ (x ∷ [])) → P (get_or (xs ++ (x ∷ [])) k d)
+  each_push k h =
+      let n = length_push xs x in
+      ⊎_elim (λ (lt : k < length xs). subst P (sym (get_or_append_left xs (x ∷ []) d k lt)) (each k lt))
+      (λ (ge : length xs ≤ k). let e : length xs ≡ k = omega arith in subst P (sym (get_or_push xs x d k e)) here) (cases_lt k (length xs))
+
+  pub each_set : (i : ℕ) → i < length xs → (k : ℕ) → k < length (set xs i x) → P (get_or (set xs i x) k d)
+  each_set i within k h =
+      let n = length-set xs i x in
+      ⊎_elim (λ (e : k ≡ i). subst P (sym (ap (λ (j : ℕ). get_or (set xs i x) j d) e ∙ get_or-set_same xs i x d within)) here)
+      (λ (ne : k ≡ i → ⊥). let lt : k < length xs = omega arith in subst P (sym (get_or-set_other xs i k x d ne)) (each k lt)) (cases_eq k i)
+
 -- ---- no number stands twice
 
 -- after one more that is none of those before
@@ -62,9 +77,39 @@ module _ {X : Type 0} (key : X → ℕ) (xs : List X) where
       let lt : k < length xs = omega arith in
       eqb-false (key (get_or xs k d)) n (none_passes (λ x. eqb (key x) n) xs k d none lt) (sym (get_or-map key xs k d 0 lt) ∙ e)
 
--- ---- places counted from 1, as those counted from 0
+-- ---- what stands at a place, after changes
 
 module _ {X : Type 0} where
+  pub nth_reads : (xs : List X) (j : ℕ) (x d : X) → slice_get xs j ≡ Some x → (j < length xs) × (get_or xs j d ≡ x)
+  nth_reads [] j x d h = let z : ◌≡◌ {A = ℕ} 0 1 = cc in absurd (omega arith)
+  nth_reads (y ∷ ys) zero x d h = (omega arith, cc)
+  nth_reads (y ∷ ys) (suc j) x d h = let r = nth_reads ys j x d h in (omega (arith, r.0), r.1)
+
+  pub nth_push : (xs : List X) (y : X) (j : ℕ) (x : X) → slice_get xs j ≡ Some x → slice_get (xs ++ (y ∷ [])) j ≡ Some x
+  nth_push [] y j x h = let z : ◌≡◌ {A = ℕ} 0 1 = cc in absurd (omega arith)
+  nth_push (z ∷ zs) y zero x h = h
+  nth_push (z ∷ zs) y (suc j) x h = nth_push zs y j x h
+
+  -- what stands there after a push stood there before, or is the new element
+  pub nth_pushed : (xs : List X) (y : X) (j : ℕ) (x : X) → slice_get (xs ++ (y ∷ [])) j ≡ Some x → (slice_get xs j ≡ Some x) ⊎ (y ≡ x)
+  nth_pushed [] y zero x h = inr cc
+  nth_pushed [] y (suc j) x h = let z : ◌≡◌ {A = ℕ} 0 1 = cc in absurd (omega arith)
+  nth_pushed (z ∷ zs) y zero x h = inl h
+  nth_pushed (z ∷ zs) y (suc j) x h = nth_pushed zs y j x h
+
+  pub nth_set_here : (xs : List X) (i : ℕ) (y : X) → i < length xs → slice_get (set xs i y) i ≡ Some y
+  nth_set_here [] i y h = absurd (omega arith)
+  nth_set_here (z ∷ zs) zero y h = refl
+  nth_set_here (z ∷ zs) (suc i) y h = nth_set_here zs i y (omega arith)
+
+  pub nth_set_there : (xs : List X) (i j : ℕ) (y : X) → (j ≡ i → ⊥) → slice_get (set xs i y) j ≡ slice_get xs j
+  nth_set_there [] i j y ne = refl
+  nth_set_there (z ∷ zs) zero zero y ne = absurd (ne refl)
+  nth_set_there (z ∷ zs) zero (suc j) y ne = refl
+  nth_set_there (z ∷ zs) (suc i) zero y ne = refl
+  nth_set_there (z ∷ zs) (suc i) (suc j) y ne = nth_set_there zs i j y (λ e. ne (ap suc e))
+
+  -- places counted from 1, as those counted from 0
   pub at_nth : (p : ℕ) (xs : List X) (x : X) → at_place p xs ≡ Some x → (1 ≤ p) × (slice_get xs (p - 1) ≡ Some x)
   at_nth p xs x =
       cond_both (leb 1 p) (slice_get xs (p - 1)) None (λ (o : Option X). o ≡ Some x → (1 ≤ p) × (slice_get xs (p - 1) ≡ Some x)) (λ e h. (leb-true 1 p e, h))

@@ -19,6 +19,11 @@ found_place test xs = cond (any_where test xs) (Some (place_where test xs)) None
 abbrev pub first_where : {X : Type 0} → (X → Bool) → List X → Option X
 first_where test xs = slice_get xs (place_where test xs)
 
+-- how many elements pass the test
+abbrev pub count_where : {X : Type 0} → (X → Bool) → List X → ℕ
+count_where test [] = zero
+count_where test (x ∷ xs) = cond (test x) (suc (count_where test xs)) (count_where test xs)
+
 -- no number stands twice
 abbrev pub Apart : List ℕ → Type 0
 Apart ns = (i j : ℕ) → i < j → j < length ns → slice_index ns i ≢ slice_index ns j

@@ -1,6 +1,6 @@
 // Reading a list by place and by a test, for elements of any type.
-ghost use Rattle.std.specs.Prelude.{◌≡◌, ◌<◌, Bool, length, count_by, MatchOption};
-ghost use Rattle.books.specs.Places.{place_where, found_place, first_where, at_place};
+ghost use Rattle.std.specs.Prelude.{◌≡◌, ◌<◌, Bool, length, MatchOption};
+ghost use Rattle.books.specs.Places.{place_where, found_place, first_where, count_where, at_place};
 
 // A test that each element passes or fails.
 pub trait Test<T> {
@@ -35,7 +35,7 @@ pub fn find_first<T: Copy, Q: Test<T>>(items: &[T], test: &Q) -> Option<T>
 
 // How many elements pass.
 pub fn count_where<T, Q: Test<T>>(items: &[T], test: &Q) -> usize
-    ensures { result ≡ count_by (passed test.now) items.now }
+    ensures { result ≡ count_where (passed test.now) items.now }
 {
     let mut count = 0;
     for item in items {

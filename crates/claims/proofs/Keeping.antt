@@ -1,17 +1,16 @@
 -- What notes keep of a table of claims: the proofs of its laws. Assumes nothing.
-use Rattle.std.proofs.Common.{◌≡◌, ℕ, ◌<◌, ◌≤◌, Bool, true, false, cond, length, get_or, Some, None, Option, sym, refl, ap, ◌∙◌, subst, ⊎_elim, arith}
+use Rattle.std.proofs.Common.{◌≡◌, ℕ, ◌<◌, ◌≤◌, Bool, true, false, cond, List, [], ◌∷◌, length, get_or, Some, None, Option, sym, refl, ap, ◌∙◌, subst, ⊎_elim, arith}
 use Rattle.std.specs.Option.{option_flatten}
 use Rattle.std.proofs.lemmas.List.{length-set, length-replicate, get_or-set_same}
 use Rattle.std.proofs.lemmas.Option.{slice_get-get_or}
 use Rattle.std.proofs.lemmas.Bool.{cases_lt, cases_Bool, ltb-true, lt-ltb, le-ltb, ltb-false, false≢true}
 use Rattle.protocol.specs.declared.note.Note.{Note}
 use Rattle.books.specs.Places.{place_where, any_where}
-use Rattle.books.specs.Feeding.{Always}
-use Rattle.books.proofs.Feeding.{always}
+use Rattle.books.specs.Feeding.{fed}
 use Rattle.books.proofs.Places.{first_passes, place_bound, place_least}
 use Rattle.claims.specs.Limits.{claim_places}
 use Rattle.claims.specs.ClaimBook.{Places, empty_places, claim_act, act_verdict, act_next, making_verdict, releasing_verdict, made, released, claim_of, claim_next, is_taken, is_free, holds_file, holds_claim, ClaimedOnce}
-use Rattle.claims.specs.ClaimLaws.{NoFileTwice, AsManyPlaces, FreedPlacesAreUsedAgain}
+use Rattle.claims.specs.ClaimLaws.{Always, NoFileTwice, AsManyPlaces, FreedPlacesAreUsedAgain}
 use Rattle.claims.specs.declared.claim.Claim.{Claim}
 use Rattle.claims.specs.declared.claim.ClaimAct.{ClaimAct}
 use Rattle.claims.specs.declared.claim.ClaimAct.TheVariants.{Make, Release}
@@ -21,7 +20,7 @@ use Rattle.claims.proofs.Once.{free_once, made_once, released_once}
 -- t is what a note makes of s
 data Step (s t : Places) : Type 0 where
   stays : t ≡ s → Step s t
-  makes : (m : Claim) → place_where (holds_file m.file) s ≡ length s → t ≡ made m s → Step s t
+  makes : (m : Claim) → place_where (holds_file m.file) s ≡ length s → place_where is_free s < length s → t ≡ made m s → Step s t
   releases : (m : Claim) → t ≡ released m s → Step s t
 
 -- a test that no place passes
@@ -39,7 +38,7 @@ module _ (s : Places) (x : Note) where
       ⊎_elim (λ (t : held ≡ true). stays (after ∙ ap (λ (a : Bool). by a free) t))
       (λ (f : held ≡ false).
       let rest = after ∙ ap (λ (a : Bool). by a free) f in
-      ⊎_elim (λ (t : free ≡ true). makes m (nowhere (holds_file m.file) s f) (rest ∙ ap (by false) t))
+      ⊎_elim (λ (t : free ≡ true). makes m (nowhere (holds_file m.file) s f) (ltb-true (place_where is_free s) (length s) t) (rest ∙ ap (by false) t))
       (λ (g : free ≡ false). stays (rest ∙ ap (by false) g)) (cases_Bool free))
       (cases_Bool held)
   asked_step (Some (Release m)) asks =
@@ -51,24 +50,28 @@ module _ (s : Places) (x : Note) where
   step : Step s (claim_next s x)
   step = asked_step (claim_act x) refl
 
-by_steps : (P : Places → Type 0) → P empty_places → ((s t : Places) → Step s t → P s → P t) → Always claim_next empty_places P
-by_steps P new kept = always claim_next empty_places P new (λ s x. kept s (claim_next s x) (step s x))
+always : (P : Places → Type 0) → P empty_places → ((s t : Places) → Step s t → P s → P t) → Always P
+always P new kept = (new, λ s notes. fed_keeps notes s)
+  where
+    fed_keeps : (notes : List Note) (s : Places) → P s → P (fed claim_next s notes)
+    fed_keeps [] s h = h
+    fed_keeps (x ∷ xs) s h = fed_keeps xs (claim_next s x) (kept s (claim_next s x) (step s x) h)
 
 once_step : (s t : Places) → Step s t → ClaimedOnce s → ClaimedOnce t
 once_step s t (stays q) h = subst ClaimedOnce (sym q) h
-once_step s t (makes m none q) h = subst ClaimedOnce (sym q) (made_once s m none (place_where is_free s) h)
+once_step s t (makes m none room q) h = subst ClaimedOnce (sym q) (made_once s m none (place_where is_free s) room h)
 once_step s t (releases m q) h = subst ClaimedOnce (sym q) (released_once s (place_where (holds_claim m) s) h)
 
 pub never_twice : NoFileTwice
-never_twice = by_steps ClaimedOnce (free_once claim_places) once_step
+never_twice = always ClaimedOnce (free_once claim_places) once_step
 
 long_step : (s t : Places) → Step s t → length s ≡ claim_places → length t ≡ claim_places
 long_step s t (stays q) h = ap (λ (l : Places). length l) q ∙ h
-long_step s t (makes m none q) h = ap (λ (l : Places). length l) q ∙ (length-set s (place_where is_free s) (Some m) ∙ h)
+long_step s t (makes m none room q) h = ap (λ (l : Places). length l) q ∙ (length-set s (place_where is_free s) (Some m) ∙ h)
 long_step s t (releases m q) h = ap (λ (l : Places). length l) q ∙ (length-set s (place_where (holds_claim m) s) None ∙ h)
 
 pub always_as_many : AsManyPlaces
-always_as_many = by_steps (λ s. length s ≡ claim_places) (length-replicate {A = Option Claim} claim_places None) long_step
+always_as_many = always (λ s. length s ≡ claim_places) (length-replicate {A = Option Claim} claim_places None) long_step
 
 -- ---- a freed place
 

@@ -1,10 +1,10 @@
 -- The claim book: what a note asks, which verdict it gets and what the book holds then. Assumes nothing.
-use Rattle.std.specs.Prelude.{◌≡◌, ℕ, ◌<◌, Bool, true, false, cond, ◌&&◌, List, replicate, is_some, Some, None, count_by, Option, ◌==◌, ◌≢◌, nat_lt, slice_index_or, slice_set}
+use Rattle.std.specs.Prelude.{◌≡◌, ℕ, ◌<◌, Bool, true, false, cond, ◌&&◌, List, replicate, is_some, Some, None, Option, ◌==◌, ◌≢◌, nat_lt, slice_index_or, slice_set}
 use Rattle.std.specs.Option.{option_flatten}
 use Rattle.protocol.specs.Limits.{max_stations}
 use Rattle.protocol.specs.declared.note.Note.{Note}
 use Rattle.books.specs.Limits.{is_number}
-use Rattle.books.specs.Places.{place_where, any_where, first_where, at_place}
+use Rattle.books.specs.Places.{place_where, any_where, first_where, count_where, at_place}
 use Rattle.claims.specs.Limits.{claim_places}
 use Rattle.claims.specs.declared.claim.Claim.{Claim}
 use Rattle.claims.specs.declared.claim.ClaimAct.{ClaimAct}
@@ -60,7 +60,7 @@ abbrev pub claim_at : ℕ → Places → Option Claim
 claim_at p s = option_flatten (at_place p s)
 
 abbrev pub claim_count : Places → ℕ
-claim_count s = count_by is_claimed s
+claim_count s = count_where is_claimed s
 
 -- ---- the verdict
 

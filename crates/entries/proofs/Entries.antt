@@ -1,6 +1,5 @@
 -- What the acts on entries keep. Assumes nothing.
 use Rattle.std.proofs.Common.{◌≡◌, ℕ, suc, ◌<◌, ◌≤◌, Bool, true, false, cond, ◌&&◌, List, [], ◌∷◌, ◌++◌, length, get_or, set, Some, Option, sym, refl, ap, ◌∙◌, subst, arith}
-use Rattle.std.proofs.ByRecursion.{All-get_or, All-from_get_or, All-push, All-set}
 use Rattle.std.proofs.lemmas.List.{map_push}
 use Rattle.std.proofs.lemmas.Option.{slice_get-get_or, slice_get_past}
 use Rattle.std.proofs.lemmas.Bool.{and_parts, and_from}
@@ -12,7 +11,7 @@ use Rattle.entries.specs.declared.customs_entry.CustomsEntry.{CustomsEntry}
 use Rattle.entries.specs.declared.entry_act.EntryAct.{EntryAct}
 use Rattle.entries.specs.declared.entry_act.EntryAct.TheVariants.{Open, Freight, Insurance, Close}
 use Rattle.entries.specs.declared.entry_verdict.EntryVerdict.{EntryVerdict}
-use Rattle.books.proofs.Places.{apart_push, keys_set, key_new}
+use Rattle.books.proofs.Places.{apart_push, keys_set, key_new, each_push, each_set}
 
 pub after_number : (act : EntryAct) (e : CustomsEntry) → (entry_after act e).number ≡ e.number
 after_number (Open _ _) e = refl
@@ -28,22 +27,19 @@ opened_apart s e none apart =
 pub replaced_apart : (s : List CustomsEntry) (i : ℕ) (e : CustomsEntry) → i < length s → e.number ≡ (get_or s i no_entry).number → Apart (numbers s) → Apart (numbers (set s i e))
 replaced_apart s i e h same apart = subst Apart (sym (keys_set (λ (x : CustomsEntry). x.number) s i e no_entry h same)) apart
 
-abbrev RangedFigures : CustomsEntry → Type 0
-RangedFigures e = in_range e ≡ true
-
 pub opened_ranged : (s : List CustomsEntry) (e : CustomsEntry) → InRange s → in_range e ≡ true → InRange (s ++ (e ∷ []))
-opened_ranged s e each here k h = All-get_or RangedFigures (s ++ (e ∷ [])) k no_entry h (All-push RangedFigures s e (All-from_get_or RangedFigures s no_entry each) here)
+opened_ranged s e each here = each_push (λ (x : CustomsEntry). in_range x ≡ true) no_entry s each e here
 
 pub opened_in_range : (n p r : ℕ) → is_number n ≡ true → lawful_act (Open p r) ≡ true → in_range (opened n p r) ≡ true
 opened_in_range n p r number figures =
     let f = and_parts (is_amount p) (is_rate r) figures in
     and_from (is_number n) (is_amount p && (is_rate r && true)) number (and_from (is_amount p) (is_rate r && true) f.0 (and_from (is_rate r) true f.1 refl))
 
-pub replaced_ranged : (s : List CustomsEntry) (i : ℕ) (e : CustomsEntry) → InRange s → in_range e ≡ true → InRange (set s i e)
-replaced_ranged s i e each here k h = All-get_or RangedFigures (set s i e) k no_entry h (All-set RangedFigures s i e here (All-from_get_or RangedFigures s no_entry each))
+pub replaced_ranged : (s : List CustomsEntry) (i : ℕ) (e : CustomsEntry) → i < length s → InRange s → in_range e ≡ true → InRange (set s i e)
+replaced_ranged s i e h each here = each_set (λ (x : CustomsEntry). in_range x ≡ true) no_entry s each e here i h
 
 -- changing the entry of a number is replacing it at its place
-changed_is : (n : ℕ) (f : CustomsEntry → CustomsEntry) (s : List CustomsEntry) (d : CustomsEntry)
+pub changed_is : (n : ℕ) (f : CustomsEntry → CustomsEntry) (s : List CustomsEntry) (d : CustomsEntry)
     → changed n f s ≡ set s (place_where (has_number n) s) (f (get_or s (place_where (has_number n) s) d))
 changed_is n f [] d = refl
 changed_is n f (e ∷ es) d =
@@ -54,7 +50,7 @@ changed_is n f (e ∷ es) d =
     ]
 
 -- the same of a whole act on an entry of the book, where an opening is never taken
-known_next : (act : EntryAct) (n : ℕ) (s : List CustomsEntry) (e d : CustomsEntry)
+pub known_next : (act : EntryAct) (n : ℕ) (s : List CustomsEntry) (e d : CustomsEntry)
     → cond (is_taken (known_verdict act e)) (act_next act n s) s
     ≡ cond (is_taken (known_verdict act e)) (set s (place_where (has_number n) s) (entry_after act (get_or s (place_where (has_number n) s) d))) s
 known_next (Open p r) n s e d = refl
@@ -72,7 +68,7 @@ module _ (s : List CustomsEntry) (x : Note) (act : EntryAct) (asks : entry_act x
   abbrev there : CustomsEntry
   there = get_or s found no_entry
 
-  known_value : found < length s → entry_verdict s x ≡ known_verdict act there
+  pub known_value : found < length s → entry_verdict s x ≡ known_verdict act there
   known_value h =
       ap (λ (a : Option EntryAct). act_verdict a x.b s) asks ∙ ap (λ (o : Option CustomsEntry). verdict_on act o (length s)) (slice_get-get_or s found no_entry h)
 
@@ -81,7 +77,7 @@ module _ (s : List CustomsEntry) (x : Note) (act : EntryAct) (asks : entry_act x
       ap (λ (v : EntryVerdict). cond (is_taken v) (asked_next (entry_act x) x.b s) s) (known_value h)
       ∙ (ap (λ (a : Option EntryAct). cond (is_taken (known_verdict act there)) (asked_next a x.b s) s) asks ∙ known_next act x.b s there no_entry)
 
-  unknown_value : found ≡ length s → entry_verdict s x ≡ unknown_verdict act (length s)
+  pub unknown_value : found ≡ length s → entry_verdict s x ≡ unknown_verdict act (length s)
   unknown_value e =
       let past : length s ≤ found = omega arith in
       ap (λ (a : Option EntryAct). act_verdict a x.b s) asks ∙ ap (λ (o : Option CustomsEntry). verdict_on act o (length s)) (slice_get_past s found past)

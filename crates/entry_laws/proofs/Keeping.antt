@@ -6,17 +6,14 @@ use Rattle.std.proofs.lemmas.List.{length-map, length_push, length-set, get_or-m
 use Rattle.std.proofs.lemmas.Bool.{cases_eq, cases_lt, eq-eqb, eqb-true, false≢true}
 use Rattle.protocol.specs.declared.note.Note.{Note}
 use Rattle.entries.specs.Limits.{entry_places, whole_rate}
-use Rattle.books.specs.Feeding.{Always}
 use Rattle.books.specs.Places.{place_where, Apart}
 use Rattle.entries.specs.EntryBook.{has_number, numbers, opened, entry_after, duty_of, known_verdict, entry_next, is_taken, no_entry, InRange}
-use Rattle.entry_laws.specs.EntryLaws.{book_after, ClosedEntriesNeverChange, Grown, EntriesStay, EntriesAreFound, NoNumberTwice, Due, DutiesDue, DutiesAreDue, NeverOverFull, FiguresStayInRange}
+use Rattle.entry_laws.specs.EntryLaws.{book_after, ClosedEntriesNeverChange, Grown, EntriesStay, EntriesAreFound, Always, NoNumberTwice, Due, DutiesDue, DutiesAreDue, NeverOverFull, FiguresStayInRange}
 use Rattle.entries.specs.declared.customs_entry.CustomsEntry.{CustomsEntry}
 use Rattle.entries.specs.declared.entry_act.EntryAct.{EntryAct}
 use Rattle.entries.specs.declared.entry_act.EntryAct.TheVariants.{Open, Freight, Insurance, Close}
 use Rattle.entries.specs.declared.entry_verdict.EntryVerdict.TheVariants.{Taken, Closed, GivenBefore, NoFreight}
-use Rattle.books.proofs.Feeding.{always}
-use Rattle.books.proofs.Nth.{nth_reads, nth_front, nth_pushed, nth_set_here, nth_set_there}
-use Rattle.books.proofs.Places.{at_nth, nth_at, first_passes, place_least}
+use Rattle.books.proofs.Places.{nth_reads, nth_push, nth_pushed, nth_set_here, nth_set_there, at_nth, nth_at, first_passes, place_least}
 use Rattle.entries.proofs.Entries.{after_number, opened_apart, replaced_apart, opened_ranged, opened_in_range, replaced_ranged}
 use Rattle.entries.proofs.Duties.{after_ranged}
 use Rattle.entry_laws.proofs.Steps.{Step, stays, opens, changes, step}
@@ -48,7 +45,7 @@ clash o n absent there = let z : ◌≡◌ {A = ℕ} 0 1 = cc in absurd (omega a
 module _ (s t : List CustomsEntry) (j : ℕ) (e : CustomsEntry) (stood : slice_get s j ≡ Some e) where
   closed_step : (d : ℕ) → e.duty ≡ Some d → Step s t → slice_get t j ≡ Some e
   closed_step d closed (stays q) = ap (λ (l : List CustomsEntry). slice_get l j) q ∙ stood
-  closed_step d closed (opens n p r numbered lawful none room q) = ap (λ (l : List CustomsEntry). slice_get l j) q ∙ nth_front s (opened n p r ∷ []) j e stood
+  closed_step d closed (opens n p r numbered lawful none room q) = ap (λ (l : List CustomsEntry). slice_get l j) q ∙ nth_push s (opened n p r) j e stood
   closed_step d closed (changes act i lawful within taken q) =
       ap (λ (l : List CustomsEntry). slice_get l j) q
       ∙ ⊎_elim
@@ -89,7 +86,7 @@ grown_after Close e h =
 grown_step : (s t : List CustomsEntry) (j : ℕ) (e : CustomsEntry) → slice_get s j ≡ Some e → Step s t → Becomes j e t
 grown_step s t j e stood (stays q) = record { later = e; stands = ap (λ (l : List CustomsEntry). slice_get l j) q ∙ stood; grown = unchanged e }
 grown_step s t j e stood (opens n p r numbered lawful none room q) =
-    record { later = e; stands = ap (λ (l : List CustomsEntry). slice_get l j) q ∙ nth_front s (opened n p r ∷ []) j e stood; grown = unchanged e }
+    record { later = e; stands = ap (λ (l : List CustomsEntry). slice_get l j) q ∙ nth_push s (opened n p r) j e stood; grown = unchanged e }
 grown_step s t j e stood (changes act i lawful within taken q) =
     let was = get_or s i no_entry in
     ⊎_elim
@@ -148,8 +145,12 @@ all_found s k e apart stands =
 
 -- ---- what holds at all times
 
-by_steps : (P : List CustomsEntry → Type 0) → P [] → ((s t : List CustomsEntry) → Step s t → P s → P t) → Always entry_next [] P
-by_steps P new kept = always entry_next [] P new (λ s x. kept s (entry_next s x) (step s x))
+always : (P : List CustomsEntry → Type 0) → P [] → ((s t : List CustomsEntry) → Step s t → P s → P t) → Always P
+always P new kept = (new, λ s notes. fed_keeps notes s)
+  where
+    fed_keeps : (notes : List Note) (s : List CustomsEntry) → P s → P (book_after s notes)
+    fed_keeps [] s h = h
+    fed_keeps (x ∷ xs) s h = fed_keeps xs (entry_next s x) (kept s (entry_next s x) (step s x) h)
 
 apart_step : (s t : List CustomsEntry) → Step s t → Apart (numbers s) → Apart (numbers t)
 apart_step s t (stays q) h = subst (λ (l : List CustomsEntry). Apart (numbers l)) (sym q) h
@@ -158,7 +159,7 @@ apart_step s t (changes act i lawful within taken q) h =
     subst (λ (l : List CustomsEntry). Apart (numbers l)) (sym q) (replaced_apart s i (entry_after act (get_or s i no_entry)) within (after_number act (get_or s i no_entry)) h)
 
 pub never_twice : NoNumberTwice
-never_twice = by_steps (λ s. Apart (numbers s)) (λ i j below within same. absurd (omega arith)) apart_step
+never_twice = always (λ s. Apart (numbers s)) (λ i j below within same. absurd (omega arith)) apart_step
 
 few_step : (s t : List CustomsEntry) → Step s t → length s ≤ entry_places → length t ≤ entry_places
 few_step s t (stays q) h = omega (arith, ap (λ (l : List CustomsEntry). length l) q)
@@ -167,16 +168,16 @@ few_step s t (changes act i lawful within taken q) h =
     omega (arith, ap (λ (l : List CustomsEntry). length l) q, length-set s i (entry_after act (get_or s i no_entry)))
 
 pub never_full : NeverOverFull
-never_full = by_steps (λ s. length s ≤ entry_places) (omega arith) few_step
+never_full = always (λ s. length s ≤ entry_places) (omega arith) few_step
 
 ranged_step : (s t : List CustomsEntry) → Step s t → InRange s → InRange t
 ranged_step s t (stays q) h = subst InRange (sym q) h
 ranged_step s t (opens n p r numbered lawful none room q) h = subst InRange (sym q) (opened_ranged s (opened n p r) h (opened_in_range n p r numbered lawful))
 ranged_step s t (changes act i lawful within taken q) h =
-    subst InRange (sym q) (replaced_ranged s i (entry_after act (get_or s i no_entry)) h (after_ranged act (get_or s i no_entry) lawful (h i within)))
+    subst InRange (sym q) (replaced_ranged s i (entry_after act (get_or s i no_entry)) within h (after_ranged act (get_or s i no_entry) lawful (h i within)))
 
 pub always_in_range : FiguresStayInRange
-always_in_range = by_steps InRange (λ k h. absurd (omega arith)) ranged_step
+always_in_range = always InRange (λ k h. absurd (omega arith)) ranged_step
 
 -- ---- duties
 
@@ -222,4 +223,4 @@ due_step s t (changes act i lawful within taken q) h =
 
 pub always_due : DutiesAreDue
 always_due =
-    by_steps DutiesDue (λ k e d stands closed. let at = at_nth k [] e stands in let z : ◌≡◌ {A = ℕ} 0 1 = cc in absurd (omega arith)) due_step
+    always DutiesDue (λ k e d stands closed. let at = at_nth k [] e stands in let z : ◌≡◌ {A = ℕ} 0 1 = cc in absurd (omega arith)) due_step

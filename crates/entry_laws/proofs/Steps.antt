@@ -37,7 +37,7 @@ module _ (a b c d : ℕ) where
       (λ _. cond_both (eqb a 3 && eqb d 0) _ _ Lawful (λ _. one (Insurance c) amount)
       (λ _. cond_both (eqb a 4 && (eqb c 0 && eqb d 0)) _ _ Lawful (λ _. one Close refl) (λ _. none))))
 
-asked_lawful : (x : Note) (act : EntryAct) → entry_act x ≡ Some act → (is_number x.b ≡ true) × (lawful_act act ≡ true)
+pub asked_lawful : (x : Note) (act : EntryAct) → entry_act x ≡ Some act → (is_number x.b ≡ true) × (lawful_act act ≡ true)
 asked_lawful x act =
     cond_both (is_number x.b && is_amount x.c) (act_of x.a x.c x.d) None (λ (o : Option EntryAct). o ≡ Some act → (is_number x.b ≡ true) × (lawful_act act ≡ true))
     (λ t e. let both = and_parts (is_number x.b) (is_amount x.c) t in (both.0, figures_lawful x.a x.b x.c x.d both.1 act e))

@@ -1,5 +1,6 @@
 -- The journal of a station: its end, which ends match it, and its newest view. Assumes nothing.
-use Rattle.std.specs.Prelude.{ℕ, Bool, ◌&&◌, ◌||◌, List, [], ◌∷◌, map, length, ◌==◌, nat_le, nat_lt, slice_index}
+use Rattle.std.specs.Prelude.{ℕ, ◌-◌, Bool, cond, ◌&&◌, ◌||◌, List, [], ◌∷◌, map, length, None, Option, ◌==◌, nat_le, nat_lt, slice_index}
+use Rattle.std.specs.List.{slice_get}
 use Rattle.protocol.specs.declared.entry.Body.{Body}
 use Rattle.protocol.specs.declared.entry.Body.TheVariants as body
 use Rattle.protocol.specs.declared.entry.Entry.{Entry}
@@ -32,6 +33,10 @@ matches j e = is_start e || holds j e.0 e.1
 abbrev pub view_after : ℕ → Body → ℕ
 view_after v (body.Note x) = v
 view_after v (body.View mask) = mask
+
+-- the entry at a place, counted from 1; none outside the journal
+abbrev pub entry_at : List Entry → ℕ → Option Entry
+entry_at j p = cond (nat_lt 0 p) (slice_get j (p - 1)) None
 
 -- the last view of a journal, or the whole roll
 abbrev pub newest_view : ℕ → List Entry → ℕ

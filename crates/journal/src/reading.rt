@@ -1,9 +1,9 @@
-// What a journal says: the turn at a place, its end, and which ends match it.
+// What a journal says: the turn at a place, its end, which ends match it, and its newest view.
 ghost use Rattle.std.specs.Prelude.{◌≡◌, ◌≤◌, length};
 ghost use Rattle.protocol.specs.Limits.{journal_places};
-ghost use Rattle.journal.specs.Journal.{turn_at, last_turn, end_of, matches};
+ghost use Rattle.journal.specs.Journal.{turn_at, last_turn, entry_at, end_of, matches, view_after, newest_view};
 
-use protocol::entry::{End, Entry};
+use protocol::entry::{Body, End, Entry};
 
 // The turn of the entry at a place, counted from 1; 0 at place 0 and past the end.
 pub fn turn_at(journal: &[Entry], place: usize) -> u32
@@ -22,6 +22,16 @@ pub fn last_turn(journal: &[Entry]) -> u32
     turn_at(journal, journal.len())
 }
 
+// The entry at a place, counted from 1; none outside the journal.
+pub fn entry_at(journal: &[Entry], place: usize) -> Option<Entry>
+    ensures { result ≡ entry_at journal.now place }
+{
+    if place == 0 || place > journal.len() {
+        return None;
+    }
+    Some(journal[place - 1])
+}
+
 // The last place of a journal and that entry's turn; (0, 0) when it is empty.
 pub fn end_of(journal: &[Entry]) -> End
     requires { length journal.now ≤ journal_places }
@@ -36,4 +46,25 @@ pub fn end_matches(journal: &[Entry], end: End) -> bool
 {
     let (place, turn) = end;
     place as usize <= journal.len() && turn_at(journal, place as usize) == turn
+}
+
+// The view after an entry, from the one before it.
+fn view_after(view: u8, body: &Body) -> u8
+    ensures { result ≡ view_after view body.now }
+{
+    match body {
+        Body::Note(_) => view,
+        Body::View(mask) => *mask,
+    }
+}
+
+// The members that the last view of a journal names, or the whole roll.
+pub fn view_of(journal: &[Entry], whole: u8) -> u8
+    ensures { result ≡ newest_view whole journal.now }
+{
+    let mut view = whole;
+    for e in journal {
+        view = view_after(view, &e.body);
+    }
+    view
 }

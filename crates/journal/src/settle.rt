@@ -5,6 +5,7 @@ ghost use Rattle.journal.specs.Core.{core_of};
 ghost use Rattle.journal.specs.Settle.{feed, fed, view, settle, newly_firm};
 
 use crate::peer::least_of;
+use crate::reading::view_of;
 use crate::status::Status;
 use crate::store::Journal;
 use books::book::Book;
@@ -34,27 +35,26 @@ fn feed_all<B: Book>(book: &mut B, entries: &[Entry])
 
 impl Status {
     // The members of the newest view.
-    pub fn newest_view<J: Journal>(&self, journal: &J) -> u8
-        ensures { result ≡ view (core_of self.now (entries journal.now)) }
+    pub fn newest_view(&self, journal: &[Entry]) -> u8
+        ensures { result ≡ view (core_of self.now journal.now) }
     {
-        journal.newest_view(whole(self.roll))
+        view_of(journal, whole(self.roll))
     }
 
     // Works the firm count out again.
-    fn raise_firm(&mut self, journal: &[Entry], members: u8)
-        requires members { members ≡ view (core_of self.old journal.now) }
+    fn raise_firm(&mut self, journal: &[Entry])
         requires few { length journal.now ≤ journal_places }
         requires settled { self.old.firm ≤ length journal.now }
         ensures settled { self.new.firm ≤ length journal.now }
         ensures station { core_of self.new journal.now ≡ settle (core_of self.old journal.now) }
     {
-        let least = least_of(&self.peers, self.me, members, journal.len() as u16);
+        let view = self.newest_view(journal);
+        let least = least_of(&self.peers, self.me, view, journal.len() as u16);
         self.firm = self.firm.max(least);
     }
 
-    // Works the firm count out again by the members of the newest view, and gives newly firm notes to the book.
-    fn settle_slice<B: Book>(&mut self, journal: &[Entry], members: u8, book: &mut B)
-        requires members { members ≡ view (core_of self.old journal.now) }
+    // Works the firm count out again, and gives newly firm notes to the book.
+    fn settle_slice<B: Book>(&mut self, journal: &[Entry], book: &mut B)
         requires few { length journal.now ≤ journal_places }
         requires settled { self.old.firm ≤ length journal.now }
         ensures settled { self.new.firm ≤ length journal.now }
@@ -62,7 +62,7 @@ impl Status {
         ensures book { means book.new ≡ fed next (means book.old) (newly_firm self.old.firm (core_of self.new journal.now)) }
     {
         let before = self.firm as usize;
-        self.raise_firm(journal, members);
+        self.raise_firm(journal);
         feed_all(book, &journal[before..self.firm as usize]);
     }
 
@@ -73,7 +73,6 @@ impl Status {
         ensures station { core_of self.new (entries journal.now) ≡ settle (core_of self.old (entries journal.now)) }
         ensures book { means book.new ≡ fed next (means book.old) (newly_firm self.old.firm (core_of self.new (entries journal.now))) }
     {
-        let members = self.newest_view(journal);
-        self.settle_slice(journal.as_slice(), members, book);
+        self.settle_slice(journal.as_slice(), book);
     }
 }

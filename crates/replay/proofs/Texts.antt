@@ -9,6 +9,7 @@ use Rattle.protocol.specs.declared.entry.Entry.{Entry}
 use Rattle.protocol.specs.declared.refusal.Refusal.{Refusal}
 use Rattle.books.specs.Places.{at_place}
 use Rattle.entries.specs.declared.customs_entry.CustomsEntry.{CustomsEntry}
+use Rattle.journal.specs.Journal.{entry_at}
 use Rattle.print.specs.PrintLines.{entry_line, book_line}
 use Rattle.runs.specs.declared.call.Call.{Call}
 use Rattle.runs.specs.Rings.{Ring, run, answers, new_ring}
@@ -72,23 +73,29 @@ at_nth f (x ∷ xs) (suc i) = at_nth f xs i
 one_more : {X : Type 0} (f : X → List ℕ) (xs : List X) (i : ℕ) → flat_map f (drop i xs) ≡ if_any f (slice_get xs i) ++ flat_map f (drop (i + 1) xs)
 one_more f xs i = let e : suc i ≡ i + 1 = omega arith in at_nth f xs i ∙ ap (λ (k : ℕ). if_any f (slice_get xs i) ++ flat_map f (drop k xs)) e
 
-next_at : {X : Type 0} (xs : List X) (i : ℕ) → at_place (i + 1) xs ≡ slice_get xs i
-next_at xs i =
+entry_next_at : (j : List Entry) (i : ℕ) → entry_at j (i + 1) ≡ slice_get j i
+entry_next_at j i =
+    let t : ltb 0 (i + 1) ≡ true = grind (arith, nat_tests) in
+    let e : i + 1 - 1 ≡ i = omega arith in
+    rw t (ap (slice_get j) e)
+
+item_next_at : (b : List CustomsEntry) (i : ℕ) → at_place (i + 1) b ≡ slice_get b i
+item_next_at b i =
     let t : leb 1 (i + 1) ≡ true = grind (arith, nat_tests) in
     let e : i + 1 - 1 ≡ i = omega arith in
-    rw t (ap (slice_get xs) e)
+    rw t (ap (slice_get b) e)
 
 pub entry_more : (o : Option Stationed) (i : ℕ) → journal_text (drop i (journal_of o)) ≡ entry_part (i + 1) o ++ journal_text (drop (i + 1) (journal_of o))
 entry_more None i = one_more (λ e. ended (entry_line e)) [] i
 entry_more (Some x) i =
     let j = x.core.journal in
     one_more (λ e. ended (entry_line e)) j i
-    ∙ ap (λ (o : Option Entry). if_any (λ e. ended (entry_line e)) o ++ journal_text (drop (i + 1) j)) (sym (next_at j i))
+    ∙ ap (λ (o : Option Entry). if_any (λ e. ended (entry_line e)) o ++ journal_text (drop (i + 1) j)) (sym (entry_next_at j i))
 
 pub item_more : (b : List CustomsEntry) (i : ℕ) → book_text (drop i b) ≡ item_part (i + 1) b ++ book_text (drop (i + 1) b)
 item_more b i =
     one_more (λ e. ended (book_line e)) b i
-    ∙ ap (λ (o : Option CustomsEntry). if_any (λ e. ended (book_line e)) o ++ book_text (drop (i + 1) b)) (sym (next_at b i))
+    ∙ ap (λ (o : Option CustomsEntry). if_any (λ e. ended (book_line e)) o ++ book_text (drop (i + 1) b)) (sym (item_next_at b i))
 
 pub journal_end : (j : List Entry) (i : ℕ) → length j ≤ i → journal_text (drop i j) ≡ []
 journal_end j i le = at_drop_all journal_text j i le

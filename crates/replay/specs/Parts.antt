@@ -3,6 +3,7 @@ use Rattle.std.specs.Prelude.{ℕ, List, [], Some, None, Option}
 use Rattle.protocol.specs.declared.entry.Entry.{Entry}
 use Rattle.books.specs.Places.{at_place}
 use Rattle.entries.specs.declared.customs_entry.CustomsEntry.{CustomsEntry}
+use Rattle.journal.specs.Journal.{entry_at}
 use Rattle.print.specs.PrintLines.{entry_line, book_line}
 use Rattle.replay.specs.Print.{Stationed, ended, head_text}
 
@@ -26,7 +27,7 @@ if_any f (Some x) = f x
 -- the entry at a place of a station's journal
 abbrev pub entry_part : ℕ → Option Stationed → List ℕ
 entry_part place None = []
-entry_part place (Some x) = if_any (λ e. ended (entry_line e)) (at_place place x.core.journal)
+entry_part place (Some x) = if_any (λ e. ended (entry_line e)) (entry_at x.core.journal place)
 
 -- the entry at a place of a book
 abbrev pub item_part : ℕ → List CustomsEntry → List ℕ

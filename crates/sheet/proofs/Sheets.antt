@@ -1,19 +1,24 @@
 -- The sheet grows from the newest entry back to the oldest. Assumes nothing.
-use Rattle.std.proofs.Common.{◌≡◌, ℕ, ◌+◌, ◌-◌, ◌<◌, ◌≤◌, List, [], ◌++◌, length, get_or, drop, Some, None, sym, ap, ◌∙◌, ⊎_elim, arith}
+use Rattle.std.proofs.Common.{◌≡◌, ℕ, zero, suc, ◌+◌, ◌-◌, ◌<◌, ◌≤◌, cond, leb, List, [], ◌∷◌, ◌++◌, length, get_or, drop, Some, None, Option, sym, refl, ap, ◌∙◌, ⊎_elim, arith}
+use Rattle.std.specs.List.{slice_get}
 use Rattle.std.proofs.lemmas.List.{at_drop_more, at_drop_all}
-use Rattle.std.proofs.lemmas.Bool.{cases_lt}
+use Rattle.std.proofs.lemmas.Bool.{cond-true, le-leb, cases_lt}
 use Rattle.books.specs.Places.{at_place}
-use Rattle.books.proofs.Nth.{some_none, nth_of, nth_reads}
-use Rattle.books.proofs.Places.{at_nth, nth_at}
+use Rattle.books.proofs.Places.{at_nth, nth_reads}
 use Rattle.entries.specs.declared.customs_entry.CustomsEntry.{CustomsEntry}
 use Rattle.sheet.specs.Sheet.{sheet, sheet_part}
+
+nth_held : {X : Type 0} (xs : List X) (i : ℕ) → i < length xs → None ≡ slice_get xs i → ⊥
+nth_held [] i h e = absurd (omega arith)
+nth_held (x ∷ xs) zero h e = grind arith
+nth_held (x ∷ xs) (suc i) h e = nth_held xs i (omega arith) e
 
 -- within the list, only place 0 holds nothing
 pub empty_place : {X : Type 0} (xs : List X) (p : ℕ) → None ≡ at_place p xs → p ≤ length xs → p ≡ 0
 empty_place xs p is high =
     ⊎_elim
     (λ (low : p < 1). omega arith)
-    (λ (some : 1 ≤ p). let at = nth_of xs (p - 1) (omega arith) in absurd (some_none at.0 (is ∙ nth_at p xs at.0 some at.1)))
+    (λ (some : 1 ≤ p). absurd (nth_held xs (p - 1) (omega arith) (is ∙ cond-true (leb 1 p) (slice_get xs (p - 1)) None (le-leb 1 p some))))
     (cases_lt p 1)
 
 -- ---- the sheet

@@ -13,7 +13,12 @@ use std::alloc::{AllocError, Global};
 fn is_filed(number: u32, filed: &[u32]) -> bool
     ensures { result ≡ is_filed number filed.now }
 {
-    filed.contains(&number)
+    for n in filed {
+        if *n == number {
+            return true;
+        }
+    }
+    false
 }
 
 // Adds what an entry has on the sheet: its line, indented, or nothing once it is filed.

@@ -1,9 +1,9 @@
 -- What a sound station tells: known places are within its journal, and the entry at a place has that place. Assumes nothing.
-use Rattle.std.proofs.Common.{◌≡◌, ℕ, zero, suc, ◌+◌, ◌-◌, ◌≤◌, true, eqb, leb, List, [], ◌∷◌, length, Some, None, Option, refl, ap, arith}
+use Rattle.std.proofs.Common.{◌≡◌, ℕ, zero, suc, ◌+◌, ◌-◌, ◌<◌, ◌≤◌, true, eqb, ltb, List, [], ◌∷◌, length, Some, None, Option, refl, ap, arith}
 use Rattle.std.specs.List.{slice_get}
-use Rattle.std.proofs.lemmas.Bool.{cond_both, and_parts, eqb-true, leb-true}
+use Rattle.std.proofs.lemmas.Bool.{cond_both, and_parts, eqb-true, ltb-true}
 use Rattle.protocol.specs.declared.entry.Entry.{Entry}
-use Rattle.books.specs.Places.{at_place}
+use Rattle.journal.specs.Journal.{entry_at}
 use Rattle.journal.specs.Peers.{peer_at}
 use Rattle.journal.specs.Core.{Core}
 use Rattle.station.specs.Sound.{known_within, placed_after, is_sound, HasPlace}
@@ -23,11 +23,11 @@ placed_at k (d ∷ j) zero e w h =
 placed_at k (d ∷ j) (suc i) e w h =
     omega (arith, placed_at (k + 1) j i e (and_parts (eqb d.place (k + 1)) (placed_after (k + 1) j) w).1 h)
 
-pub has_place : (m : Core) → is_sound m ≡ true → (p : ℕ) → HasPlace p (at_place p m.journal)
+pub has_place : (m : Core) → is_sound m ≡ true → (p : ℕ) → HasPlace p (entry_at m.journal p)
 unfolding is_sound
-has_place m h p = cond_both (leb 1 p) _ _ (HasPlace p) (λ e. found (leb-true 1 p e) (slice_get m.journal (p - 1)) refl) (λ _. tt)
+has_place m h p = cond_both (ltb 0 p) _ _ (HasPlace p) (λ e. found (ltb-true 0 p e) (slice_get m.journal (p - 1)) refl) (λ _. tt)
   where
-    found : 1 ≤ p → (o : Option Entry) → slice_get m.journal (p - 1) ≡ o → HasPlace p o
+    found : 0 < p → (o : Option Entry) → slice_get m.journal (p - 1) ≡ o → HasPlace p o
     found some None e = tt
     found some (Some x) e =
         omega (arith, placed_at 0 m.journal (p - 1) x (and_parts (known_within (length m.journal) m.peers) (placed_after 0 m.journal) h).1 e)

@@ -6,6 +6,7 @@ use Rattle.protocol.specs.declared.frame.Frame.{Frame}
 use Rattle.protocol.specs.declared.frame.Frame.TheVariants as frame
 use Rattle.journal.specs.declared.state.State.TheVariants.{Running, Joining, Out}
 use Rattle.journal.specs.declared.state.Cause.TheVariants.{Stopped}
+use Rattle.journal.specs.Journal.{last_turn}
 use Rattle.journal.specs.Peers.{peer_at}
 use Rattle.journal.specs.Core.{Core, with_state, new_core, is_out}
 use Rattle.journal.specs.Settle.{fed, known_to_all}
@@ -14,10 +15,18 @@ use Rattle.taking.specs.Lawful.{lawful}
 use Rattle.taking.specs.Take.{filing, acts, received, taken}
 use Rattle.turning.specs.declared.token.Token.{Token}
 use Rattle.turning.specs.Calls.{open_call, say_next, pass_turn}
-use Rattle.turning.specs.Whole.{turn_call}
+use Rattle.turning.specs.Whole.{whole_turn, turn_call, turn_by_calls}
 use Rattle.station.specs.Model.{Model, new_model, firm_part}
 use Rattle.station.specs.Rules.{entered, noted, stopped, took, enters, open_station, say_station, pass_station, turn_station}
 use Rattle.station.specs.Sound.{is_sound}
+
+-- opening, saying until none is due, and passing come to the whole turn, in any turn that no entry of the journal is younger than
+abbrev pub TurnByCalls : Type 0
+TurnByCalls = (vote : ℕ → Bool) (t : ℕ) (ns : List Note) (m : Core) → last_turn m.journal ≤ t → turn_by_calls vote t ns m ≡ whole_turn vote t ns m
+
+-- a turn posts at most 11 frames
+abbrev pub FewFrames : Type 0
+FewFrames = (vote : ℕ → Bool) (t : ℕ) (ns : List Note) (m : Core) → length (whole_turn vote t ns m).1.1 ≤ 11
 
 -- how a station can become another
 pub record Grown (m x : Core) : Type 0 where

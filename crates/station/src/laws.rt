@@ -1,5 +1,15 @@
 // What the rules of a station keep, as theorems.
-ghost use Rattle.station.specs.Laws.{CallsGrow, BooksFollow, IgnoredFrames, CallsSettle};
+ghost use Rattle.station.specs.Laws.{TurnByCalls, FewFrames, CallsGrow, BooksFollow, IgnoredFrames, CallsSettle};
+
+// Opening, saying until none is due, and passing come to the whole turn.
+pub fn turn_by_calls()
+    ensures { TurnByCalls }
+{}
+
+// A turn posts at most 11 frames.
+pub fn few_frames()
+    ensures { FewFrames }
+{}
 
 // Journals grow at their end alone, firm counts and known places only rise, and none of them passes the length.
 pub fn calls_grow()

@@ -4,3 +4,4 @@
 pub mod examples;
 pub mod laws;
 pub mod station;
+pub mod turn;

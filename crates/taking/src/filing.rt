@@ -15,7 +15,7 @@ pub enum Filing {
 }
 
 // How an entry stands to a journal, where the entry before it has the turn `before`.
-pub(crate) fn filing_of(journal: &[Entry], entry: &Entry, before: u32) -> Filing
+pub fn filing_of(journal: &[Entry], entry: &Entry, before: u32) -> Filing
     ensures { result ≡ filing journal.now entry.now before }
 {
     let length = journal.len();

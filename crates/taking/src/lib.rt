@@ -2,5 +2,5 @@
 #![tactic(auto)]
 
 pub mod filing;
-mod lawful;
+pub mod lawful;
 pub mod take;

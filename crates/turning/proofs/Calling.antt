@@ -1,6 +1,5 @@
 -- The ways of opening, saying and passing. Assumes nothing.
-use Rattle.std.proofs.Common.{◌≡◌, ℕ, ◌-◌, Bool, true, false, cond, not, ◌&&◌, List, [], ◌∷◌, Some, None, Ok, Err, Option, Result, sym, refl, ap, ◌∙◌, arith}
-use Rattle.std.proofs.lemmas.Bool.{true≢false}
+use Rattle.std.proofs.Common.{◌≡◌, ℕ, ◌-◌, Bool, true, false, cond, List, [], ◌∷◌, Some, None, Ok, Err, Option, Result, sym, refl, ap, ◌∙◌, arith}
 use Rattle.queue.specs.Contents.{oldest, rest}
 use Rattle.protocol.specs.declared.entry.Body.TheVariants as body
 use Rattle.protocol.specs.declared.refusal.Refusal.TheVariants.{WrongTurn}
@@ -68,9 +67,3 @@ module _ (k : Token) (m : Core) where
 -- nothing new is firm
 pub none_firm : (m : Core) → newly_firm m.firm m ≡ []
 none_firm m = let z : m.firm - m.firm ≡ 0 = omega arith in rw z
-
--- with an own token, nothing is to pass only where the station is out
-pub own_out : (a b : Bool) → true ≡ a → (a && not b) ≡ false → b ≡ true
-own_out true true e h = refl
-own_out true false e h = absurd (true≢false h)
-own_out false b e h = absurd (true≢false e)

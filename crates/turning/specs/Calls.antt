@@ -1,5 +1,5 @@
 -- The calls that make up a turn: opening gives a token, saying uses it for one note, passing ends it. Assumes nothing.
-use Rattle.std.specs.Prelude.{ℕ, ◌-◌, ◌%◌, Bool, true, false, cond, not, ◌&&◌, List, [], length, Some, None, Ok, Err, Option, Result, ◌==◌, nat_le, nat_lt}
+use Rattle.std.specs.Prelude.{ℕ, ◌-◌, ◌%◌, Bool, true, false, cond, ◌&&◌, List, [], length, Some, None, Ok, Err, Option, Result, ◌==◌, nat_le, nat_lt}
 use Rattle.queue.specs.Contents.{contents, oldest, rest}
 use Rattle.protocol.specs.Limits.{last_turn_number, note_room, notes_per_turn}
 use Rattle.protocol.specs.declared.note.Note.{Note}
@@ -9,7 +9,7 @@ use Rattle.protocol.specs.declared.refusal.Refusal.TheVariants.{WrongTurn}
 use Rattle.journal.specs.declared.state.State.{State}
 use Rattle.journal.specs.declared.state.State.TheVariants.{Running, Joining, Out}
 use Rattle.journal.specs.Journal.{last_turn}
-use Rattle.journal.specs.Core.{Core, is_running, is_out}
+use Rattle.journal.specs.Core.{Core, is_running}
 use Rattle.turning.specs.declared.token.Token.{Token}
 use Rattle.turning.specs.declared.outbox.Outbox.{Outbox}
 use Rattle.turning.specs.Posts.{Posting, after, say_body}
@@ -75,10 +75,6 @@ abbrev pub pass_as : State → Core → Posting
 pass_as Running m = pass_running m
 pass_as Joining m = pass_joining m
 pass_as (Out c) m = (m, [])
-
--- there is something to pass: a token of another station, an old one, or one of a station that is out is only ended
-abbrev pub passes : Token → Core → Bool
-passes k m = is_own k m && not (is_out m.state)
 
 -- a token of another station, or an old one, is only ended
 unfoldable pub pass_turn : Token → Core → Posting

@@ -2,9 +2,9 @@
 #![tactic(auto)]
 
 pub mod outbox;
-mod post;
-mod put_off;
-mod ring;
-mod serve;
+pub mod post;
+pub mod put_off;
+pub mod ring;
+pub mod serve;
 pub mod token;
-mod wish;
+pub mod wish;

@@ -68,7 +68,7 @@ pub fn put_off<J: Journal, W: Wire<Frame>, R: VotingRule>(
 {
     let held = journal.as_slice();
     let full = held.len() >= JOURNAL_PLACES;
-    let view = status.newest_view(journal);
+    let view = status.newest_view(held);
     let gone = unheard_members(status, view);
     if gone == 0 {
         return;

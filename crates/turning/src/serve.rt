@@ -41,7 +41,7 @@ pub fn serve<J: Journal, W: Wire<Frame>>(
     let to = length.min(from + RESENT_PER_TURN);
     post_entries(wire, status.me, &held[from..to], turn_at(held, from));
     if lets_in(length, from) {
-        let view = status.newest_view(journal);
+        let view = status.newest_view(held);
         say_body(status, journal, wire, t, Body::View(with(view, station)));
     }
 }

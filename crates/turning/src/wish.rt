@@ -1,18 +1,17 @@
 // The second step of a turn: the wish to serve.
 ghost use Rattle.std.specs.Prelude.{◌≡◌, length};
 ghost use Rattle.journal.specs.Core.{core_of};
-ghost use Rattle.journal.specs.Settle.{view};
 ghost use Rattle.turning.specs.Steps.{any_wish, asked, chosen, PlaceWithin, WishWithin};
 
 use crate::ring::station_after;
-use journal::peer::{PEERS, Peer};
+use journal::peer::Peer;
 use journal::reading::end_matches;
 use journal::status::Status;
 use protocol::entry::{End, Entry};
 use vote::mask::contains;
 
 // Whether any wish stands.
-fn has_wish(peers: &[Peer; PEERS]) -> bool
+fn has_wish(peers: &[Peer; 8]) -> bool
     ensures { result ≡ any_wish peers.now }
 {
     for p in peers {
@@ -38,16 +37,16 @@ fn asked_place(journal: &[Entry], wish: Option<End>) -> Option<u16>
     }
 }
 
-// The nearest matching wish, going back, of a station that has this one as its next other member of the newest view:
-// whose it is, and the place after which it asks for entries.
-pub fn wish_to_serve(status: &Status, journal: &[Entry], members: u8) -> Option<(u8, u16)>
-    requires { members ≡ view (core_of status.now journal.now) }
+// The nearest matching wish, going back, of a station that has this one as its next other member: whose it is, and
+// the place after which it asks for entries.
+pub fn wish_to_serve(status: &Status, journal: &[Entry]) -> Option<(u8, u16)>
     ensures value { result ≡ chosen (core_of status.now journal.now) }
     ensures bound { WishWithin status.now.roll (length journal.now) result }
 {
     if !has_wish(&status.peers) {
         return None;
     }
+    let view = status.newest_view(journal);
     let mut left = status.roll - 1;
     'search: loop {
         if left == 0 {
@@ -61,7 +60,7 @@ pub fn wish_to_serve(status: &Status, journal: &[Entry], members: u8) -> Option<
         // on from there to its next other member
         for k in 1..status.roll {
             let next = station_after(status.roll, at, k);
-            if contains(members, next) {
+            if contains(view, next) {
                 if next == status.me {
                     break 'search Some((at, place));
                 }

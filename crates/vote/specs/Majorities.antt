@@ -4,7 +4,7 @@ use Rattle.std.proofs.Common.{sym, ap, ◌∙◌, inl, inr, arith, zero-mul, one
 use Rattle.std.specs.Int.Count.{ones, ones_step}
 use Rattle.std.proofs.lemmas.List.{at_drop_more, at_drop_all, length-replicate}
 use Rattle.std.proofs.lemmas.Bool.{ltb-true, lt-ltb, and_parts, le-ltb, and_from, and_left, eq-eqb, eqb-true}
-use Rattle.vote.specs.Mask.{everyone, Within, Share}
+use Rattle.vote.specs.Mask.{has, everyone, Within, Share}
 use Rattle.vote.specs.Majority.{total, weight, majority, heads}
 use Rattle.vote.specs.Masks.{has_zero, has_suc, half_below, everyone_below, everyone_odd, everyone_half}
 
@@ -25,7 +25,7 @@ next_shares : (n a b : ℕ) → Share n (a / 2) (b / 2) → Share (suc n) a b
 next_shares n a b h = (suc h.0, omega arith, has_suc a h.0 ∙ h.2, has_suc b h.0 ∙ h.3)
 
 -- sets that together weigh more than all share a station
-weight_shares : (ws : List ℕ) (a b : ℕ) → total ws < weight ws a + weight ws b → Share (length ws) a b
+pub weight_shares : (ws : List ℕ) (a b : ℕ) → total ws < weight ws a + weight ws b → Share (length ws) a b
 unfolding weight total
 weight_shares [] a b more = absurd (omega arith)
 weight_shares (w ∷ ws) a b more =
@@ -44,7 +44,7 @@ half_within : (a b : ℕ) → Within a b → Within (a / 2) (b / 2)
 half_within a b within s h = sym (has_suc b s) ∙ within (suc s) (has_suc a s ∙ h)
 
 -- a set in another weighs no more than it
-weight_grows : (ws : List ℕ) (a b : ℕ) → Within a b → weight ws a ≤ weight ws b
+pub weight_grows : (ws : List ℕ) (a b : ℕ) → Within a b → weight ws a ≤ weight ws b
 unfolding weight
 weight_grows [] a b within = omega arith
 weight_grows (w ∷ ws) a b within =
@@ -55,7 +55,7 @@ weight_grows (w ∷ ws) a b within =
     ]
 
 -- the whole roll weighs all
-weight_everyone : (ws : List ℕ) → weight ws (everyone (length ws)) ≡ total ws
+pub weight_everyone : (ws : List ℕ) → weight ws (everyone (length ws)) ≡ total ws
 unfolding weight total
 weight_everyone [] = refl
 weight_everyone (w ∷ ws) = rw (everyone_odd, everyone_half, one-mul) (ap (λ x. w + x) (weight_everyone ws))
@@ -117,7 +117,7 @@ unfolding total
 total_heads zero = refl
 total_heads (suc n) = omega (arith, total_heads n)
 
-weight_heads : (n m : ℕ) → m < 2 ^ n → weight (heads n) m ≡ ones m
+pub weight_heads : (n m : ℕ) → m < 2 ^ n → weight (heads n) m ≡ ones m
 unfolding weight ones
 weight_heads zero m below = let z : m ≡ 0 = omega arith in sym (ap ones z)
 weight_heads (suc n) m below = omega (arith, ones_step m, weight_heads n (m / 2) (half_below n m below))

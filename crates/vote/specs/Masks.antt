@@ -1,10 +1,10 @@
 -- Membership in a mask: by halves, by bits, and after adding or removing. Assumes nothing.
-use Rattle.std.specs.Prelude.{◌≡◌, ℕ, zero, suc, ◌-◌, ◌*◌, ◌/◌, ◌%◌, ◌^◌, ◌<◌, ◌≤◌, min, true, false, not, ◌&&◌, ◌||◌, ◌==◌, bit_and, bit_or, nat_eq, nat_lt, refl}
+use Rattle.std.specs.Prelude.{◌≡◌, ℕ, zero, suc, ◌+◌, ◌-◌, ◌*◌, ◌/◌, ◌%◌, ◌^◌, ◌<◌, ◌≤◌, min, Bool, true, false, cond, not, ◌&&◌, ◌||◌, ◌==◌, bit_and, bit_or, nat_eq, nat_lt, refl}
 use Rattle.std.proofs.Common.{sym, ap, ◌∙◌, ⊎_elim, arith, div-one}
 use Rattle.std.proofs.Math.Nat.{pow-succ', div-div-eq-div-mul}
 use Rattle.std.proofs.Math.Dec.{leb-suc-suc, eqb-suc-zero, eqb-zero-suc, eqb-suc-suc}
 use Rattle.std.proofs.lemmas.Nat.{pow_pos, pow_below, and_shr, or_shr, and_mod, or_mod, or_lt, and_le_l}
-use Rattle.std.proofs.lemmas.Bool.{cond-true, lt-ltb, le-ltb, eq-eqb, ne_eqb, cases_eq, cases_lt, or_left, or_right}
+use Rattle.std.proofs.lemmas.Bool.{cond-true, lt-ltb, le-ltb, eq-eqb, ne_eqb, cases_eq, cases_lt, or_left, or_right, and_parts}
 use Rattle.std.proofs.lemmas.Bool.Decides.{nat_tests}
 use Rattle.vote.specs.Mask.{has, Within, everyone, adding, removing}
 
@@ -54,6 +54,14 @@ pub everyone_half : (n : ℕ) → everyone (suc n) / 2 ≡ everyone n
 unfolding everyone
 everyone_half n = omega (arith, pow-succ' 2 n, pow_pos n)
 
+-- masks below 2 ^ n with the same stations are equal
+pub same_mask : (n a b : ℕ) → a < 2 ^ n → b < 2 ^ n → ((s : ℕ) → s < n → has a s ≡ has b s) → a ≡ b
+same_mask zero a b p q same = omega arith
+same_mask (suc n) a b p q same =
+    let low : nat_eq (a % 2) 1 ≡ nat_eq (b % 2) 1 = sym (has_zero a) ∙ same 0 (omega arith) ∙ has_zero b in
+    let high : a / 2 ≡ b / 2 = same_mask n (a / 2) (b / 2) (half_below n a p) (half_below n b q) (λ s h. sym (has_suc a s) ∙ same (suc s) (omega arith) ∙ has_suc b s) in
+    grind (arith, nat_tests)
+
 -- ---- by bits
 
 and_bit : (p q : ℕ) → p < 2 → q < 2 → (bit_and p q == 1) ≡ (p == 1 && q == 1)
@@ -74,20 +82,20 @@ or_bit (suc zero) (suc zero) h k = refl
 or_bit (suc zero) (suc (suc q)) h k = absurd (omega arith)
 or_bit (suc (suc p)) q h k = absurd (omega arith)
 
-has_and : (a b s : ℕ) → has (bit_and a b) s ≡ (has a s && has b s)
+pub has_and : (a b s : ℕ) → has (bit_and a b) s ≡ (has a s && has b s)
 unfolding has
 has_and a b s =
     ap (λ x. nat_eq x 1) (ap (λ x. x % 2) (and_shr a b s) ∙ and_mod (a / 2 ^ s) (b / 2 ^ s) 1)
     ∙ and_bit (a / 2 ^ s % 2) (b / 2 ^ s % 2) (omega arith) (omega arith)
 
-has_or : (a b s : ℕ) → has (bit_or a b) s ≡ (has a s || has b s)
+pub has_or : (a b s : ℕ) → has (bit_or a b) s ≡ (has a s || has b s)
 unfolding has
 has_or a b s =
     ap (λ x. nat_eq x 1) (ap (λ x. x % 2) (or_shr a b s) ∙ or_mod (a / 2 ^ s) (b / 2 ^ s) 1)
     ∙ or_bit (a / 2 ^ s % 2) (b / 2 ^ s % 2) (omega arith) (omega arith)
 
 -- the mask of one station
-has_one : (s t : ℕ) → has (2 ^ s) t ≡ (t == s)
+pub has_one : (s t : ℕ) → has (2 ^ s) t ≡ (t == s)
 has_one zero zero = has_zero 1
 has_one zero (suc t) = has_suc 1 t ∙ has_none t ∙ sym (eqb-suc-zero t)
 has_one (suc s) zero = has_zero (2 ^ suc s) ∙ ne_eqb _ 1 (λ e. omega (arith, pow-succ' 2 s)) ∙ sym (eqb-zero-suc s)
@@ -97,7 +105,7 @@ low_of_others : (h m : ℕ) → m < 2 * h → ((2 * h - 1 - m) % 2 == 1) ≡ not
 low_of_others h m below = grind (arith, nat_tests)
 
 -- the complement within the first n stations
-has_others : (n m s : ℕ) → m < 2 ^ n → s < n → has (2 ^ n - 1 - m) s ≡ not (has m s)
+pub has_others : (n m s : ℕ) → m < 2 ^ n → s < n → has (2 ^ n - 1 - m) s ≡ not (has m s)
 has_others zero m s below on = absurd (omega arith)
 has_others (suc n) m zero below on = has_zero (2 ^ suc n - 1 - m) ∙ ap (λ x. nat_eq ((x - 1 - m) % 2) 1) (pow-succ' 2 n) ∙ low_of_others (2 ^ n) m (omega (arith, pow-succ' 2 n)) ∙ ap not (sym (has_zero m))
 has_others (suc n) m (suc s) below on =
@@ -132,12 +140,15 @@ unfolding adding
 adding_below n m s few on below =
     rw (cond-true (nat_lt s 8) (bit_or m (2 ^ s)) m (lt-ltb s 8 (omega arith))) (or_lt n m (2 ^ s) below (pow_below s n on))
 
+pub within_removing : (m o : ℕ) → Within (removing m o) m
+within_removing m o t h = (and_parts (has m t) (has (255 - o) t) (sym (has_and m (255 - o) t) ∙ h)).0
+
 pub removing_le : (m o : ℕ) → removing m o ≤ m
 removing_le m o = and_le_l m (255 - o)
 
 -- ---- one station alone, and without one station
 
-has_alone : (s t : ℕ) → s < 8 → has (adding 0 s) t ≡ (t == s)
+pub has_alone : (s t : ℕ) → s < 8 → has (adding 0 s) t ≡ (t == s)
 has_alone s t on = has_adding 0 s t on ∙ ap (λ x. x || t == s) (has_none t)
 
 pub has_lacking : (m s t : ℕ) → m < 256 → s < 8 → has (removing m (adding 0 s)) t ≡ (has m t && not (t == s))

@@ -6,11 +6,11 @@ ghost use Rattle.station.specs.Meaning.{model};
 
 use super::Station;
 use books::book::Book;
-use journal::peer::{PEERS, Peer};
+use journal::peer::Peer;
 use journal::state::State;
 use journal::status::Status;
 use journal::store::Owned;
-use protocol::limits::MAX_STATIONS;
+use protocol::limits::{JOURNAL_PLACES, MAX_STATIONS};
 use protocol::refusal::{MakeError, Refusal};
 use std::alloc::Global;
 use turning::outbox::Outbox;
@@ -33,7 +33,7 @@ impl<B: Book + Drop> Station<B> {
         if roll > MAX_STATIONS {
             return Err(MakeError::Refused(Refusal::RollSize));
         }
-        let Ok(journal) = Owned::new(heap) else {
+        let Ok(items) = Vec::with_capacity(heap, JOURNAL_PLACES) else {
             return Err(MakeError::Memory);
         };
         Ok(Station {
@@ -42,9 +42,9 @@ impl<B: Book + Drop> Station<B> {
                 roll,
                 state: State::Running,
                 firm: 0,
-                peers: [NEW_PEER; PEERS],
+                peers: [NEW_PEER; 8],
             },
-            journal,
+            journal: Owned { items },
             outbox: Outbox::new(),
             book,
         })

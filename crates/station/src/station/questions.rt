@@ -2,17 +2,15 @@
 ghost use Rattle.std.specs.Prelude.{◌≡◌, ◌≤◌, length};
 ghost use Rattle.std.specs.List.{slice_get};
 ghost use Rattle.protocol.specs.Limits.{journal_places, outbox_places};
-ghost use Rattle.books.specs.Places.{at_place};
-ghost use Rattle.journal.specs.Journal.{end_of};
+ghost use Rattle.journal.specs.Journal.{entry_at, end_of};
 ghost use Rattle.journal.specs.Settle.{view};
 ghost use Rattle.turning.specs.Calls.{waiting};
 ghost use Rattle.station.specs.Meaning.{core};
 ghost use Rattle.station.specs.Sound.{peer_of, KnownWithin, HasPlace};
 
 use super::Station;
-use books::search::at_place;
 use journal::peer::Peer;
-use journal::reading::end_of;
+use journal::reading::{end_of, entry_at};
 use journal::state::State;
 use journal::store::Journal;
 use protocol::entry::{End, Entry};
@@ -50,10 +48,10 @@ impl<B> Station<B> {
 
     // The entry at a place of its journal, counted from 1; none outside.
     pub fn entry(&self, place: usize) -> Option<Entry>
-        ensures value { result ≡ at_place place (core self.now).journal }
+        ensures value { result ≡ entry_at (core self.now).journal place }
         ensures at { HasPlace place result }
     {
-        at_place(self.journal.as_slice(), place)
+        entry_at(self.journal.as_slice(), place)
     }
 
     // The last place of its journal and that entry's turn.
@@ -67,7 +65,7 @@ impl<B> Station<B> {
     pub fn newest_view(&self) -> u8
         ensures { result ≡ view (core self.now) }
     {
-        self.status.newest_view(&self.journal)
+        self.status.newest_view(self.journal.as_slice())
     }
 
     // How many entries of its journal are firm.

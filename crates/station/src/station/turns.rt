@@ -1,10 +1,10 @@
 // The turn of a station: by its three calls, and whole.
 ghost use Rattle.std.specs.Prelude.{◌≡◌, false, Ok, Err};
 ghost use Rattle.station.specs.Rules.{open_station, say_station, pass_station, turn_station, Acted};
-ghost use Rattle.turning.specs.Calls.{passes};
-ghost use Rattle.station.specs.Meaning.{core, model, Unchanged};
+ghost use Rattle.station.specs.Meaning.{model, Unchanged};
 
 use super::Station;
+use crate::turn::turn;
 use books::book::Book;
 use protocol::frame::Frame;
 use protocol::refusal::Refusal;
@@ -13,7 +13,6 @@ use turning::token::opening::open;
 use turning::token::passing::pass;
 use turning::token::saying::say;
 use vote::rule::VotingRule;
-use whole_turn::turn::turn;
 use wires::wire::Wire;
 
 impl<B: Book> Station<B> {
@@ -48,8 +47,7 @@ impl<B: Book> Station<B> {
 
     // Ends the turn, and the token with it.
     pub fn pass<W: Wire<Frame>>(&mut self, wire: &mut W, token: Token)
-        ensures after { Acted self.old.status.me (pass_station next token (model means self.old)) (model means self.new) (W.Wire.lines wire.old) (W.Wire.lines wire.new) }
-        ensures same { passes token (core self.old) ≡ false → Unchanged self.old self.new × (wire.new ≡ wire.old) }
+        ensures { Acted self.old.status.me (pass_station next token (model means self.old)) (model means self.new) (W.Wire.lines wire.old) (W.Wire.lines wire.new) }
     {
         pass(&mut self.status, &self.journal, wire, &mut self.book, token);
     }

@@ -47,8 +47,7 @@ fn open_steps<J: Journal, W: Wire<Frame>, R: VotingRule>(
     if !status.state.is_running() {
         return 0;
     }
-    let members = status.newest_view(journal);
-    let Some((station, place)) = wish_to_serve(status, journal.as_slice(), members) else {
+    let Some((station, place)) = wish_to_serve(status, journal.as_slice()) else {
         return NOTES_PER_TURN;
     };
     serve(status, journal, wire, t, station, place);

@@ -1,9 +1,9 @@
 // Passing: the fourth step, or the join frame.
-ghost use Rattle.std.specs.Prelude.{◌≡◌, ◌≤◌, true, false, length};
-ghost use Rattle.journal.specs.Core.{core_of, is_out};
+ghost use Rattle.std.specs.Prelude.{◌≡◌, ◌≤◌, length};
+ghost use Rattle.journal.specs.Core.{core_of};
 ghost use Rattle.journal.specs.Settle.{fed, newly_firm};
 ghost use Rattle.turning.specs.Posts.{Performed};
-ghost use Rattle.turning.specs.Calls.{pass_as, passes, pass_turn};
+ghost use Rattle.turning.specs.Calls.{pass_as, pass_turn};
 
 use super::Token;
 use books::book::Book;
@@ -26,7 +26,6 @@ fn pass_on<J: Journal, W: Wire<Frame>, B: Book>(
     ensures settled { status.new.firm ≤ length (entries journal.now) }
     ensures turn { Performed status.old.me (pass_as status.old.state (core_of status.old (entries journal.now))) (core_of status.new (entries journal.now)) (lines wire.old) (lines wire.new) }
     ensures book { means book.new ≡ fed next (means book.old) (newly_firm status.old.firm (core_of status.new (entries journal.now))) }
-    ensures same { is_out status.old.state ≡ true → (status.new ≡ status.old) × (wire.new ≡ wire.old) × (book.new ≡ book.old) }
 {
     let sender = status.me;
     let end = end_of(journal.as_slice());
@@ -56,7 +55,6 @@ pub fn pass<J: Journal, W: Wire<Frame>, B: Book>(
     ensures settled { status.new.firm ≤ length (entries journal.now) }
     ensures turn { Performed status.old.me (pass_turn token (core_of status.old (entries journal.now))) (core_of status.new (entries journal.now)) (lines wire.old) (lines wire.new) }
     ensures book { means book.new ≡ fed next (means book.old) (newly_firm status.old.firm (core_of status.new (entries journal.now))) }
-    ensures same { passes token (core_of status.old (entries journal.now)) ≡ false → (status.new ≡ status.old) × (wire.new ≡ wire.old) × (book.new ≡ book.old) }
 {
     let own = token.is_own(status, journal.as_slice());
     let Token {

@@ -1,7 +1,7 @@
 -- That the count goes on.
-use Rattle.std.proofs.Common.{count_by, sym, ap, ◌∙◌, arith}
-use Rattle.std.proofs.lemmas.List.{take_all}
-use Rattle.std.proofs.lemmas.List.Sums.{count_by_more_yes, count_by_more_no}
+use Rattle.std.proofs.Common.{◌≡◌, ℕ, ◌+◌, ◌≤◌, drop, sym, ◌∙◌, subst, arith}
+use Rattle.books.specs.Places.{count_where}
+use Rattle.books.proofs.Searches.{counted_here, skipped_here, counted_all}
 use Rattle.books.proofs.search.count_where.Goals as goal
 use Rattle.books.proofs.search.count_where.Goals.{then-passes, else-passes}
 
@@ -11,15 +11,20 @@ loop-item-preserved g c =
     let xs = c.args.items.now in
     let i = c.loop-item.item-index in
     let x = c.item-item.result in
-    let tested = ap pass (sym c.item-item.is) ∙ sym c.passes.ensures in
+    let rest : ℕ → Type 0 = λ n. (n ≤ i + 1) × (n + count_where pass (drop (i + 1) xs) ≡ count_where pass xs) in
     elim c.if-passes.branch [
       | then-passes w ↦
-          (let more = count_by_more_yes pass xs i x c.loop-item-test.true (tested ∙ w.if-passes.true) in
-          (omega (arith, w.count-is, c.loop-item.invariant.0), omega (arith, w.count-is, c.loop-item.invariant.1, more)))
+          subst rest (sym w.count-is) (
+            omega (arith, c.loop-item.invariant.0),
+            counted_here pass xs i x c.loop-item.count c.loop-item-test.true c.item-item.is (sym c.passes.ensures ∙ w.if-passes.true) c.loop-item.invariant.1,
+          )
       | else-passes w ↦
-          (let same = count_by_more_no pass xs i x c.loop-item-test.true (tested ∙ w.if-passes.false) in
-          (omega (arith, w.count-is, c.loop-item.invariant.0), omega (arith, w.count-is, c.loop-item.invariant.1, same)))
+          subst rest (sym w.count-is) (
+            omega (arith, c.loop-item.invariant.0),
+            skipped_here pass xs i x c.loop-item.count c.loop-item-test.true c.item-item.is (sym c.passes.ensures ∙ w.if-passes.false) c.loop-item.invariant.1,
+          )
     ]
 
 pub returns : goal.returns
-returns g c = c.loop-item.invariant.1 ∙ ap (count_by (g.Q.Test.passed c.args.test.now)) (take_all _ _ c.loop-item-test.false)
+returns g c =
+    counted_all (g.Q.Test.passed c.args.test.now) c.args.items.now c.loop-item.item-index c.loop-item.count c.loop-item-test.false c.loop-item.invariant.1

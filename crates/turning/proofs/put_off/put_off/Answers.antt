@@ -13,7 +13,7 @@ returns-then-gone-eq0 g c =
     let x = c.args.status.now in
     let m = core_of x (g.J.Journal.entries c.args.journal.now) in
     let vote = g.R.VotingRule.votes c.args.rule.now in
-    let ev = c.newest_view-view.ensures in
+    let ev = c.newest_view-view.ensures ∙ ap (λ (j : List Entry). view (core_of x j)) c.as_slice-held.ensures.value in
     record { home = refl; turn = by_rule (all_heard vote c.args.t m _ _ ev c.unheard_members-gone.ensures c.if-gone-eq0.true) (unsaid x.me m _) }
 
 pub returns-then-not-has_vote : goal.returns-then-not-has_vote
@@ -21,7 +21,7 @@ returns-then-not-has_vote g c =
     let x = c.args.status.now in
     let m = core_of x (g.J.Journal.entries c.args.journal.now) in
     let vote = g.R.VotingRule.votes c.args.rule.now in
-    let ev = c.newest_view-view.ensures in
+    let ev = c.newest_view-view.ensures ∙ ap (λ (j : List Entry). view (core_of x j)) c.as_slice-held.ensures.value in
     record { home = refl; turn = by_rule (outvoted vote c.args.t m _ _ ev c.unheard_members-gone.ensures _ c.if-gone-eq0.false c.without-rest.ensures c.if-not-has_vote.ensures) (unsaid x.me _ _) }
 
 pub returns-then-full : goal.returns-then-full
@@ -29,7 +29,7 @@ returns-then-full g c =
     let x = c.args.status.now in
     let j = g.J.Journal.entries c.args.journal.now in
     let vote = g.R.VotingRule.votes c.args.rule.now in
-    let ev = c.newest_view-view.ensures in
+    let ev = c.newest_view-view.ensures ∙ ap (λ (j : List Entry). view (core_of x j)) c.as_slice-held.ensures.value in
     let n = ap length c.as_slice-held.ensures.value in
     let long : journal_places ≤ length j = omega arith in
     record { home = refl; turn = by_rule (is_full vote c.args.t (core_of x j) _ _ ev c.unheard_members-gone.ensures _ c.if-gone-eq0.false c.without-rest.ensures c.if-not-has_vote.ensures long) (unsaid x.me _ _) }
@@ -39,7 +39,7 @@ returns-else-full g c =
     let x = c.args.status.now in
     let j = g.J.Journal.entries c.args.journal.now in
     let vote = g.R.VotingRule.votes c.args.rule.now in
-    let ev = c.newest_view-view.ensures in
+    let ev = c.newest_view-view.ensures ∙ ap (λ (j : List Entry). view (core_of x j)) c.as_slice-held.ensures.value in
     let n = ap length c.as_slice-held.ensures.value in
     let short : length j < journal_places = omega arith in
     record { home = c.say_body.ensures.home; turn = by_rule (put_off_view vote c.args.t (core_of x j) _ _ ev c.unheard_members-gone.ensures _ c.if-gone-eq0.false c.without-rest.ensures c.if-not-has_vote.ensures short) c.say_body.ensures.turn }

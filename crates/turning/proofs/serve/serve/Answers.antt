@@ -20,7 +20,7 @@ returns-then-lets_in g c =
       turn = by_rule
           (serve_in c.args.t c.args.station c.args.place (core_of x j) c.newest_view-view.result _ _
           (c.lets_in.ensures ∙ ap (λ (i : List Entry). lets_in (length i) c.args.place) h) c.if-lets_in.true
-          c.newest_view-view.ensures c.with.ensures)
+          (c.newest_view-view.ensures ∙ ap (λ (i : List Entry). view (core_of x i)) h) c.with.ensures)
           (after_frames x.me _ _ _ (L c.args.wire.now) (L c.post_entries.new.wire) _
           (again_lines x.me c.turn_at.result c.args.place c.min-to.result _ j _ _ h c.requires c.min-to.ensures c.turn_at.ensures c.post_entries.ensures)
           c.say_body.ensures.turn);

@@ -13,12 +13,12 @@ returns-then-not-has_wish c = record {
 pub search-preserved-in_default : goal.search-preserved-in_default
 search-preserved-in_default c =
     let m = core_of c.args.status.now c.args.journal.now in
-    (omega arith, look_past c.args.members m c.search.left _ (omega arith) c.station_after-at.ensures.value c.in_default.ensures.value ∙ c.search.invariant.1)
+    (omega arith, look_past c.newest_view-view.result m c.search.left _ (omega arith) c.station_after-at.ensures.value c.in_default.ensures.value ∙ c.search.invariant.1)
 
 pub search-preserved : goal.search-preserved
 search-preserved c =
     let x = c.args.status.now in
-    let v = c.args.members in (
+    let v = c.newest_view-view.result in (
       omega arith,
       look_other v (core_of x c.args.journal.now) c.search.left _ _ (omega arith) c.station_after-at.ensures.value c.in-Some.ensures.value
           (sym c.loop-k.invariant ∙ on_none x.roll x.me v c.station_after-at.result c.loop-k.k (omega arith))
@@ -28,7 +28,7 @@ search-preserved c =
 pub search-preserved-then-contains : goal.search-preserved-then-contains
 search-preserved-then-contains c =
     let x = c.args.status.now in
-    let v = c.args.members in (
+    let v = c.newest_view-view.result in (
       omega arith,
       look_other v (core_of x c.args.journal.now) c.search.left _ _ (omega arith) c.station_after-at.ensures.value c.in-Some.ensures.value
           (sym c.loop-k.invariant
@@ -40,14 +40,14 @@ search-preserved-then-contains c =
 pub loop-k-preserved : goal.loop-k-preserved
 loop-k-preserved c =
     let x = c.args.status.now in
-    on_past x.roll x.me c.args.members c.station_after-at.result c.loop-k.k _ (omega arith) c.station_after-next.ensures.value c.if-contains.ensures
+    on_past x.roll x.me c.newest_view-view.result c.station_after-at.result c.loop-k.k _ (omega arith) c.station_after-next.ensures.value c.if-contains.ensures
     ∙ c.loop-k.invariant
 
 pub returns-then-left-eq0 : goal.returns-then-left-eq0
 returns-then-left-eq0 c =
     let m = core_of c.args.status.now c.args.journal.now in
     record {
-      value = sym (look_none c.args.members m c.search.left c.if-left-eq0.true) ∙ c.search.invariant.1 ∙ chosen_look m _ c.if-not-has_wish.ensures c.requires;
+      value = sym (look_none c.newest_view-view.result m c.search.left c.if-left-eq0.true) ∙ c.search.invariant.1 ∙ chosen_look m _ c.if-not-has_wish.ensures c.newest_view-view.ensures;
       bound = tt;
     }
 
@@ -55,12 +55,12 @@ pub returns-then-next-status : goal.returns-then-next-status
 returns-then-next-status c =
     let x = c.args.status.now in
     let m = core_of x c.args.journal.now in
-    let v = c.args.members in
+    let v = c.newest_view-view.result in
     record {
       value = look_found v m c.search.left _ _ (omega arith) c.station_after-at.ensures.value c.in-Some.ensures.value
           (sym c.loop-k.invariant
           ∙ on_met x.roll x.me v c.station_after-at.result c.loop-k.k _ (omega arith) c.station_after-next.ensures.value c.if-contains.ensures
           ∙ eq-eqb _ _ c.if-next-status.true)
-          ∙ c.search.invariant.1 ∙ chosen_look m _ c.if-not-has_wish.ensures c.requires;
+          ∙ c.search.invariant.1 ∙ chosen_look m _ c.if-not-has_wish.ensures c.newest_view-view.ensures;
       bound = (c.station_after-at.ensures.bound, c.in-Some.ensures.bound);
     }

@@ -23,7 +23,7 @@ invariant_of-self c =
         search rules,
         (
           replaced_apart s c.args.place c.after.result c.requires.within n c.args.self.now.apart,
-          (replaced_ranged s c.args.place c.after.result c.args.self.now.ranged c.after.ensures.ranged, tt),
+          (replaced_ranged s c.args.place c.after.result c.requires.within c.args.self.now.ranged c.after.ensures.ranged, tt),
         ),
       ),
     )

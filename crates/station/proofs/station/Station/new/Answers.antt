@@ -5,7 +5,7 @@ use Rattle.station.specs.Sound.{is_sound}
 use Rattle.station.proofs.Growth.{new_sound}
 use Rattle.station.proofs.station.Station.new.Goals as goal
 
-pub invariant_of-result-2 : goal.invariant_of-result-2
-invariant_of-result-2 g c =
+pub invariant_of-result-3 : goal.invariant_of-result-3
+invariant_of-result-3 g c =
     let m = new_core c.args.me c.args.roll in
-    (omega arith, (ap (λ (j : List Entry). is_sound (with_journal j m)) c.in-Ok.ensures ∙ new_sound c.args.me c.args.roll, tt))
+    (omega arith, (ap (λ (j : List Entry). is_sound (with_journal j m)) c.in-Ok.ensures.items ∙ new_sound c.args.me c.args.roll, tt))

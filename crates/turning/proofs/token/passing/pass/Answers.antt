@@ -1,10 +1,10 @@
-use Rattle.std.proofs.Common.{List, sym, refl, ap, ◌∙◌}
+use Rattle.std.proofs.Common.{List, sym, ap, ◌∙◌}
 use Rattle.journal.specs.Core.{core_of}
 use Rattle.journal.specs.Settle.{fed}
 use Rattle.protocol.specs.declared.entry.Entry.{Entry}
 use Rattle.turning.specs.Calls.{is_own, token}
 use Rattle.turning.proofs.Posting.{unsaid, by_rule}
-use Rattle.turning.proofs.Calling.{pass_own, pass_other, none_firm, own_out}
+use Rattle.turning.proofs.Calling.{pass_own, pass_other, none_firm}
 use Rattle.turning.proofs.token.passing.pass.Goals as goal
 
 pub returns-then-own : goal.returns-then-own
@@ -16,7 +16,6 @@ returns-then-own g c =
       settled = c.pass_on.ensures.settled;
       turn = by_rule (pass_own c.args.token m o) c.pass_on.ensures.turn;
       book = c.pass_on.ensures.book;
-      same = λ h. c.pass_on.ensures.same (own_out _ _ o h);
     }
 
 pub returns-else-own : goal.returns-else-own
@@ -29,5 +28,4 @@ returns-else-own g c =
       settled = c.requires;
       turn = by_rule (pass_other c.args.token m o) (unsaid _ m _);
       book = ap (fed b.next (b.means c.args.book.now)) (sym (none_firm m));
-      same = λ _. (refl, refl, refl);
     }

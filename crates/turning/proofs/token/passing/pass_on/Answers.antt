@@ -1,7 +1,6 @@
-use Rattle.std.proofs.Common.{ℕ, List, sym, refl, ap, ◌∙◌}
-use Rattle.std.proofs.lemmas.Bool.{true≢false}
+use Rattle.std.proofs.Common.{ℕ, List, sym, ap, ◌∙◌}
 use Rattle.protocol.specs.declared.frame.Frame.TheVariants.{Heartbeat, Join}
-use Rattle.journal.specs.Core.{core_of, with_peers, is_out}
+use Rattle.journal.specs.Core.{core_of, with_peers}
 use Rattle.journal.specs.Journal.{end_of}
 use Rattle.journal.specs.Settle.{fed, settle}
 use Rattle.journal.specs.declared.peer.Peer.{Peer}
@@ -24,7 +23,6 @@ returns-in-Running g c =
         lines = posted_frame x.me _ _ (g.W.Wire.lines c.args.wire.now) _ (ap (λ (i : ℕ × ℕ). Heartbeat x.me i) e) c.post.ensures.after;
       });
       book = c.settle_now.ensures.book;
-      same = λ o. absurd (true≢false (sym o ∙ ap is_out c.in-Running.is));
     }
 
 pub returns-in-Joining : goal.returns-in-Joining
@@ -39,7 +37,6 @@ returns-in-Joining g c =
         lines = posted_frame x.me _ _ (g.W.Wire.lines c.args.wire.now) _ (ap (λ (i : ℕ × ℕ). Join x.me i) e) c.post-in-Joining.ensures.after;
       });
       book = c.settle_now-in-Joining.ensures.book;
-      same = λ o. absurd (true≢false (sym o ∙ ap is_out c.in-Joining.is));
     }
 
 pub returns-in-Out : goal.returns-in-Out
@@ -50,5 +47,4 @@ returns-in-Out g c =
       settled = c.requires;
       turn = by_rule (ap (λ (s : State). pass_as s m) c.in-Out.is) (unsaid _ m _);
       book = ap (fed b.next (b.means c.args.book.now)) (sym (none_firm m));
-      same = λ _. (refl, refl, refl);
     }

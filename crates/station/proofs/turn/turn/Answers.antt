@@ -8,9 +8,9 @@ use Rattle.turning.specs.Posts.{Posting}
 use Rattle.turning.proofs.Posting.{by_rule}
 use Rattle.turning.proofs.Keeping.{keeps_call}
 use Rattle.turning.proofs.Calling.{none_firm}
-use Rattle.whole_turn.proofs.Sayings.{ends_more, ends_none}
-use Rattle.whole_turn.proofs.Turning.{flagged, falls, opened, shut, call_shut, call_done, whole_is}
-use Rattle.whole_turn.proofs.turn.turn.Goals as goal
+use Rattle.station.proofs.Sayings.{ends_more, ends_none}
+use Rattle.station.proofs.Turning.{flagged, falls, opened, shut, call_shut, call_done, whole_is}
+use Rattle.station.proofs.turn.turn.Goals as goal
 
 pub loop-more-preserved : goal.loop-more-preserved
 loop-more-preserved g c =

@@ -16,8 +16,8 @@ use Rattle.wires.specs.Calls.{posted_all}
 use Rattle.wires.specs.Lines.{Lines}
 use Rattle.turning.proofs.Serving.{after_frames}
 use Rattle.turning.proofs.Posting.{by_rule}
-use Rattle.whole_turn.proofs.Sayings.{counted, Ends, ends}
-use Rattle.whole_turn.proofs.ByCalls.{by_calls}
+use Rattle.station.proofs.Sayings.{counted, Ends, ends}
+use Rattle.station.proofs.ByCalls.{by_calls}
 
 -- an answer with a known flag
 pub flagged : (r : Token × Bool) (q : Token × Bool) (b : Bool) → r ≡ q → r.1 ≡ b → (r.0, b) ≡ q

@@ -1,8 +1,8 @@
 use Rattle.std.proofs.Common.{◌≡◌, ◌≤◌, length}
 use Rattle.journal.specs.Core.{core_of}
 use Rattle.turning.specs.Calls.{token, waiting}
-use Rattle.whole_turn.proofs.Sayings.{ends}
-use Rattle.whole_turn.proofs.turn.turn.Given as goal
+use Rattle.station.proofs.Sayings.{ends}
+use Rattle.station.proofs.turn.turn.Given as goal
 
 -- what is left to say comes to the same
 abbrev pub invariant-loop-more : goal.invariant-loop-more

@@ -1,4 +1,0 @@
-mod ByCalls
-mod Sayings
-mod Turning
-mod Counting
