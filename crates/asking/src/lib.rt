@@ -18,7 +18,7 @@ use wires::wire::Wire;
 
 // Whether a station runs, is joining, or is out, and why.
 pub fn state<W: Wire<Frame>, B: Book, R>(ring: &Ring<W, B, R>, at: u32) -> Result<State, Refusal>
-    ensures { result ≡ asked (meaning means lines ring.now) at state_of }
+    ensures { result ≡ asked (meaning B.means W.lines ring.now) at state_of }
 {
     let station = ring.station(at)?;
     Ok(station.state())
@@ -26,7 +26,7 @@ pub fn state<W: Wire<Frame>, B: Book, R>(ring: &Ring<W, B, R>, at: u32) -> Resul
 
 // How many entries a station's journal has.
 pub fn len<W: Wire<Frame>, B: Book, R>(ring: &Ring<W, B, R>, at: u32) -> Result<usize, Refusal>
-    ensures { result ≡ asked (meaning means lines ring.now) at length_of }
+    ensures { result ≡ asked (meaning B.means W.lines ring.now) at length_of }
 {
     let station = ring.station(at)?;
     Ok(station.len())
@@ -38,7 +38,7 @@ pub fn entry<W: Wire<Frame>, B: Book, R>(
     at: u32,
     place: usize,
 ) -> Result<Option<Entry>, Refusal>
-    ensures { result ≡ asked (meaning means lines ring.now) at (entry_of place) }
+    ensures { result ≡ asked (meaning B.means W.lines ring.now) at (entry_of place) }
 {
     let station = ring.station(at)?;
     Ok(station.entry(place))
@@ -46,7 +46,7 @@ pub fn entry<W: Wire<Frame>, B: Book, R>(
 
 // The last place of a station's journal and that entry's turn.
 pub fn end<W: Wire<Frame>, B: Book, R>(ring: &Ring<W, B, R>, at: u32) -> Result<End, Refusal>
-    ensures { result ≡ asked (meaning means lines ring.now) at end_of_journal }
+    ensures { result ≡ asked (meaning B.means W.lines ring.now) at end_of_journal }
 {
     let station = ring.station(at)?;
     Ok(station.end())
@@ -54,7 +54,7 @@ pub fn end<W: Wire<Frame>, B: Book, R>(ring: &Ring<W, B, R>, at: u32) -> Result<
 
 // The members of a station's newest view.
 pub fn newest_view<W: Wire<Frame>, B: Book, R>(ring: &Ring<W, B, R>, at: u32) -> Result<u8, Refusal>
-    ensures { result ≡ asked (meaning means lines ring.now) at view_of }
+    ensures { result ≡ asked (meaning B.means W.lines ring.now) at view_of }
 {
     let station = ring.station(at)?;
     Ok(station.newest_view())
@@ -62,7 +62,7 @@ pub fn newest_view<W: Wire<Frame>, B: Book, R>(ring: &Ring<W, B, R>, at: u32) ->
 
 // How many entries of a station's journal are firm.
 pub fn firm<W: Wire<Frame>, B: Book, R>(ring: &Ring<W, B, R>, at: u32) -> Result<u16, Refusal>
-    ensures { result ≡ asked (meaning means lines ring.now) at firm_of }
+    ensures { result ≡ asked (meaning B.means W.lines ring.now) at firm_of }
 {
     let station = ring.station(at)?;
     Ok(station.firm())
@@ -70,7 +70,7 @@ pub fn firm<W: Wire<Frame>, B: Book, R>(ring: &Ring<W, B, R>, at: u32) -> Result
 
 // A station's book.
 pub fn book<W: Wire<Frame>, B: Book, R>(ring: &Ring<W, B, R>, at: u32) -> Result<&B, Refusal>
-    ensures { elim result [ Ok b ↦ asked (meaning means lines ring.now) at book_of ≡ Ok (means b.now) | Err e ↦ asked (meaning means lines ring.now) at book_of ≡ Err e ] }
+    ensures { elim result [ Ok b ↦ asked (meaning B.means W.lines ring.now) at book_of ≡ Ok (B.means b.now) | Err e ↦ asked (meaning B.means W.lines ring.now) at book_of ≡ Err e ] }
 {
     let station = ring.station(at)?;
     Ok(station.book())
@@ -78,7 +78,7 @@ pub fn book<W: Wire<Frame>, B: Book, R>(ring: &Ring<W, B, R>, at: u32) -> Result
 
 // How many notes wait in a station's outbox.
 pub fn waiting<W: Wire<Frame>, B: Book, R>(ring: &Ring<W, B, R>, at: u32) -> Result<usize, Refusal>
-    ensures { result ≡ asked (meaning means lines ring.now) at waiting_of }
+    ensures { result ≡ asked (meaning B.means W.lines ring.now) at waiting_of }
 {
     let station = ring.station(at)?;
     Ok(station.waiting())
@@ -90,7 +90,7 @@ pub fn waiting_note<W: Wire<Frame>, B: Book, R>(
     at: u32,
     i: usize,
 ) -> Result<Option<Note>, Refusal>
-    ensures { result ≡ asked (meaning means lines ring.now) at (note_of i) }
+    ensures { result ≡ asked (meaning B.means W.lines ring.now) at (note_of i) }
 {
     let station = ring.station(at)?;
     Ok(station.waiting_note(i))
@@ -102,7 +102,7 @@ pub fn peer<W: Wire<Frame>, B: Book, R>(
     at: u32,
     other: u32,
 ) -> Result<Option<Peer>, Refusal>
-    ensures { result ≡ asked (meaning means lines ring.now) at (peer_in other) }
+    ensures { result ≡ asked (meaning B.means W.lines ring.now) at (peer_in other) }
 {
     let station = ring.station(at)?;
     if other >= station.roll() as u32 {

@@ -47,8 +47,8 @@ pub trait StartingBook: Book + Sized {
 
 // Gives a book a note and answers the verdict's number.
 pub fn give_number<B: Book>(book: &mut B, note: Note) -> u8
-    ensures after { means book.new ≡ next (means book.old) note }
-    ensures value { result ≡ B.Verdict.Verdict.number (verdict (means book.old) note) }
+    ensures after { B.means book.new ≡ B.next (B.means book.old) note }
+    ensures value { result ≡ B.Verdict.Verdict.number (B.verdict (B.means book.old) note) }
     ensures same { (result ≢ 0) → book.new ≡ book.old }
 {
     let verdict = book.give(note);

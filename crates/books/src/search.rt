@@ -12,8 +12,8 @@ pub trait Test<T> {
 
 // The place of the first element that passes, counted from 0.
 pub fn first_place<T, Q: Test<T>>(items: &[T], test: &Q) -> Option<usize>
-    ensures value { result ≡ found_place (passed test.now) items.now }
-    ensures cases { MatchOption result (place_where (passed test.now) items.now ≡ length items.now) (λ i. (i ≡ place_where (passed test.now) items.now) × (i < length items.now)) }
+    ensures value { result ≡ found_place (Q.passed test.now) items.now }
+    ensures cases { MatchOption result (place_where (Q.passed test.now) items.now ≡ length items.now) (λ i. (i ≡ place_where (Q.passed test.now) items.now) × (i < length items.now)) }
 {
     for (i, item) in items.iter().enumerate() {
         if test.passes(item) {
@@ -25,7 +25,7 @@ pub fn first_place<T, Q: Test<T>>(items: &[T], test: &Q) -> Option<usize>
 
 // The first element that passes.
 pub fn find_first<T: Copy, Q: Test<T>>(items: &[T], test: &Q) -> Option<T>
-    ensures { result ≡ first_where (passed test.now) items.now }
+    ensures { result ≡ first_where (Q.passed test.now) items.now }
 {
     match first_place(items, test) {
         Some(place) => Some(items[place]),
@@ -35,7 +35,7 @@ pub fn find_first<T: Copy, Q: Test<T>>(items: &[T], test: &Q) -> Option<T>
 
 // How many elements pass.
 pub fn count_where<T, Q: Test<T>>(items: &[T], test: &Q) -> usize
-    ensures { result ≡ count_where (passed test.now) items.now }
+    ensures { result ≡ count_where (Q.passed test.now) items.now }
 {
     let mut count = 0;
     for item in items {

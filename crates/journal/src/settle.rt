@@ -14,7 +14,7 @@ use vote::mask::whole;
 
 // Gives the note of an entry, if it has one, to a book.
 fn feed_body<B: Book>(book: &mut B, body: &Body)
-    ensures { means book.new ≡ feed next (means book.old) body.now }
+    ensures { B.means book.new ≡ feed B.next (B.means book.old) body.now }
 {
     match body {
         Body::Note(x) => {
@@ -26,7 +26,7 @@ fn feed_body<B: Book>(book: &mut B, body: &Body)
 
 // Gives the notes of entries to a book, in order.
 fn feed_all<B: Book>(book: &mut B, entries: &[Entry])
-    ensures { means book.new ≡ fed next (means book.old) entries.now }
+    ensures { B.means book.new ≡ fed B.next (B.means book.old) entries.now }
 {
     for e in entries {
         feed_body(book, &e.body);
@@ -59,7 +59,7 @@ impl Status {
         requires settled { self.old.firm ≤ length journal.now }
         ensures settled { self.new.firm ≤ length journal.now }
         ensures station { core_of self.new journal.now ≡ settle (core_of self.old journal.now) }
-        ensures book { means book.new ≡ fed next (means book.old) (newly_firm self.old.firm (core_of self.new journal.now)) }
+        ensures book { B.means book.new ≡ fed B.next (B.means book.old) (newly_firm self.old.firm (core_of self.new journal.now)) }
     {
         let before = self.firm as usize;
         self.raise_firm(journal);
@@ -68,10 +68,10 @@ impl Status {
 
     // The same over any journal.
     pub fn settle_now<J: Journal, B: Book>(&mut self, journal: &J, book: &mut B)
-        requires { self.old.firm ≤ length (entries journal.now) }
-        ensures settled { self.new.firm ≤ length (entries journal.now) }
-        ensures station { core_of self.new (entries journal.now) ≡ settle (core_of self.old (entries journal.now)) }
-        ensures book { means book.new ≡ fed next (means book.old) (newly_firm self.old.firm (core_of self.new (entries journal.now))) }
+        requires { self.old.firm ≤ length (J.entries journal.now) }
+        ensures settled { self.new.firm ≤ length (J.entries journal.now) }
+        ensures station { core_of self.new (J.entries journal.now) ≡ settle (core_of self.old (J.entries journal.now)) }
+        ensures book { B.means book.new ≡ fed B.next (B.means book.old) (newly_firm self.old.firm (core_of self.new (J.entries journal.now))) }
     {
         self.settle_slice(journal.as_slice(), book);
     }

@@ -28,13 +28,13 @@ pub fn turn<J: Journal, W: Wire<Frame>, R: VotingRule, B: Book>(
     rule: &R,
     t: u32,
 ) -> Result<(), Refusal>
-    requires { status.old.firm ≤ length (entries journal.old) }
-    ensures settled { status.new.firm ≤ length (entries journal.new) }
-    ensures home { home journal.new ≡ home journal.old }
-    ensures value { result ≡ (turn_call (votes rule.now) t (waiting outbox.old) (core_of status.old (entries journal.old))).0 }
-    ensures outbox { waiting outbox.new ≡ (turn_call (votes rule.now) t (waiting outbox.old) (core_of status.old (entries journal.old))).1.0 }
-    ensures turn { Performed status.old.me (turn_call (votes rule.now) t (waiting outbox.old) (core_of status.old (entries journal.old))).1.1 (core_of status.new (entries journal.new)) (lines wire.old) (lines wire.new) }
-    ensures book { means book.new ≡ fed next (means book.old) (newly_firm status.old.firm (core_of status.new (entries journal.new))) }
+    requires { status.old.firm ≤ length (J.entries journal.old) }
+    ensures settled { status.new.firm ≤ length (J.entries journal.new) }
+    ensures home { J.home journal.new ≡ J.home journal.old }
+    ensures value { result ≡ (turn_call (R.votes rule.now) t (waiting outbox.old) (core_of status.old (J.entries journal.old))).0 }
+    ensures outbox { waiting outbox.new ≡ (turn_call (R.votes rule.now) t (waiting outbox.old) (core_of status.old (J.entries journal.old))).1.0 }
+    ensures turn { Performed status.old.me (turn_call (R.votes rule.now) t (waiting outbox.old) (core_of status.old (J.entries journal.old))).1.1 (core_of status.new (J.entries journal.new)) (W.lines wire.old) (W.lines wire.new) }
+    ensures book { B.means book.new ≡ fed B.next (B.means book.old) (newly_firm status.old.firm (core_of status.new (J.entries journal.new))) }
     ensures same { elim result [ Ok k ↦ Unit {0} | Err e ↦ (status.new ≡ status.old) × (journal.new ≡ journal.old) × (wire.new ≡ wire.old) × (outbox.new ≡ outbox.old) × (book.new ≡ book.old) ] }
 {
     let mut token = match open(status, journal, wire, rule, t) {

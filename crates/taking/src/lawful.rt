@@ -33,7 +33,7 @@ fn is_other(me: u8, roll: u8, s: u8) -> bool
 // Whether a body is a note, or a view on the roll that has the vote.
 fn is_body_lawful<R: VotingRule>(roll: u8, rule: &R, body: &Body) -> bool
     requires { roll ≤ max_stations }
-    ensures { result ≡ body_lawful roll (votes rule.now) body.now }
+    ensures { result ≡ body_lawful roll (R.votes rule.now) body.now }
 {
     match body {
         Body::Note(_) => true,
@@ -44,7 +44,7 @@ fn is_body_lawful<R: VotingRule>(roll: u8, rule: &R, body: &Body) -> bool
 // Whether a frame is one to act on; any other is ignored.
 pub fn is_lawful<R: VotingRule>(me: u8, roll: u8, rule: &R, frame: &Frame) -> bool
     requires { roll ≤ max_stations }
-    ensures { result ≡ lawful me roll (votes rule.now) frame.now }
+    ensures { result ≡ lawful me roll (R.votes rule.now) frame.now }
 {
     match frame {
         Frame::Entry {

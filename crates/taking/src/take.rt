@@ -24,10 +24,10 @@ use vote::rule::VotingRule;
 // Appends an entry, and raises the sender's known place to it.
 fn append<J: Journal>(status: &mut Status, journal: &mut J, sender: u8, entry: &Entry)
     requires sender { sender < max_stations }
-    requires next { entry.now.place ≡ length (entries journal.old) + 1 }
+    requires next { entry.now.place ≡ length (J.entries journal.old) + 1 }
     requires fits { entry.now.place ≤ journal_places }
-    ensures home { home journal.new ≡ home journal.old }
-    ensures station { core_of status.new (entries journal.new) ≡ append sender entry.now (core_of status.old (entries journal.old)) }
+    ensures home { J.home journal.new ≡ J.home journal.old }
+    ensures station { core_of status.new (J.entries journal.new) ≡ append sender entry.now (core_of status.old (J.entries journal.old)) }
 {
     journal.push(*entry);
     raise(&mut status.peers, sender, entry.place);
@@ -66,8 +66,8 @@ fn run_entry<J: Journal>(
 )
     requires sender { sender < max_stations }
     requires fits { entry.now.place ≤ journal_places }
-    ensures home { home journal.new ≡ home journal.old }
-    ensures station { core_of status.new (entries journal.new) ≡ entry_running (filing (entries journal.old) entry.now before) sender entry.now (core_of status.old (entries journal.old)) }
+    ensures home { J.home journal.new ≡ J.home journal.old }
+    ensures station { core_of status.new (J.entries journal.new) ≡ entry_running (filing (J.entries journal.old) entry.now before) sender entry.now (core_of status.old (J.entries journal.old)) }
 {
     match filing_of(journal.as_slice(), entry, before) {
         Filing::Held => raise(&mut status.peers, sender, entry.place),
@@ -90,8 +90,8 @@ fn join_entry<J: Journal>(
 )
     requires sender { sender < max_stations }
     requires fits { entry.now.place ≤ journal_places }
-    ensures home { home journal.new ≡ home journal.old }
-    ensures station { core_of status.new (entries journal.new) ≡ entry_joining (filing (entries journal.old) entry.now before) sender entry.now (core_of status.old (entries journal.old)) }
+    ensures home { J.home journal.new ≡ J.home journal.old }
+    ensures station { core_of status.new (J.entries journal.new) ≡ entry_joining (filing (J.entries journal.old) entry.now before) sender entry.now (core_of status.old (J.entries journal.old)) }
 {
     match filing_of(journal.as_slice(), entry, before) {
         Filing::Held => raise(&mut status.peers, sender, entry.place),
@@ -142,8 +142,8 @@ fn run_join(status: &mut Status, journal: &[Entry], sender: u8, end: End)
 fn act<J: Journal>(status: &mut Status, journal: &mut J, frame: &Frame)
     requires sender { sender_of frame.now < max_stations }
     requires fits { place_of frame.now ≤ journal_places }
-    ensures home { home journal.new ≡ home journal.old }
-    ensures station { core_of status.new (entries journal.new) ≡ acts status.old.state frame.now (core_of status.old (entries journal.old)) }
+    ensures home { J.home journal.new ≡ J.home journal.old }
+    ensures station { core_of status.new (J.entries journal.new) ≡ acts status.old.state frame.now (core_of status.old (J.entries journal.old)) }
 {
     match (status.state, frame) {
         (
@@ -187,8 +187,8 @@ fn act<J: Journal>(status: &mut Status, journal: &mut J, frame: &Frame)
 
 // Acts on a frame if it is lawful, and ignores any other.
 fn receive<J: Journal, R: VotingRule>(status: &mut Status, journal: &mut J, rule: &R, frame: &Frame)
-    ensures home { home journal.new ≡ home journal.old }
-    ensures station { core_of status.new (entries journal.new) ≡ received (votes rule.now) frame.now (core_of status.old (entries journal.old)) }
+    ensures home { J.home journal.new ≡ J.home journal.old }
+    ensures station { core_of status.new (J.entries journal.new) ≡ received (R.votes rule.now) frame.now (core_of status.old (J.entries journal.old)) }
 {
     if is_lawful(status.me, status.roll, rule, frame) {
         act(status, journal, frame);
@@ -203,11 +203,11 @@ pub fn take<J: Journal, R: VotingRule, B: Book>(
     rule: &R,
     frame: &Frame,
 )
-    requires { status.old.firm ≤ length (entries journal.old) }
-    ensures settled { status.new.firm ≤ length (entries journal.new) }
-    ensures home { home journal.new ≡ home journal.old }
-    ensures station { core_of status.new (entries journal.new) ≡ taken (votes rule.now) frame.now (core_of status.old (entries journal.old)) }
-    ensures book { means book.new ≡ fed next (means book.old) (newly_firm status.old.firm (core_of status.new (entries journal.new))) }
+    requires { status.old.firm ≤ length (J.entries journal.old) }
+    ensures settled { status.new.firm ≤ length (J.entries journal.new) }
+    ensures home { J.home journal.new ≡ J.home journal.old }
+    ensures station { core_of status.new (J.entries journal.new) ≡ taken (R.votes rule.now) frame.now (core_of status.old (J.entries journal.old)) }
+    ensures book { B.means book.new ≡ fed B.next (B.means book.old) (newly_firm status.old.firm (core_of status.new (J.entries journal.new))) }
 {
     receive(status, journal, rule, frame);
     if !status.state.is_out() {

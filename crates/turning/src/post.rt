@@ -14,7 +14,7 @@ use wires::wire::Wire;
 
 // Posts entries, the first of which follows an entry of turn `before`.
 pub fn post_entries<W: Wire<Frame>>(wire: &mut W, me: u8, entries: &[Entry], before: u32)
-    ensures { lines wire.new ≡ posted_all (lines wire.old) me (frames_of me before entries.now) }
+    ensures { W.lines wire.new ≡ posted_all (W.lines wire.old) me (frames_of me before entries.now) }
 {
     let mut last = before;
     for e in entries {
@@ -38,9 +38,9 @@ pub fn say_body<J: Journal, W: Wire<Frame>>(
     t: u32,
     body: Body,
 )
-    requires { length (entries journal.old) < journal_places }
-    ensures home { home journal.new ≡ home journal.old }
-    ensures turn { Performed status.now.me (say_body t body (core_of status.now (entries journal.old))) (core_of status.now (entries journal.new)) (lines wire.old) (lines wire.new) }
+    requires { length (J.entries journal.old) < journal_places }
+    ensures home { J.home journal.new ≡ J.home journal.old }
+    ensures turn { Performed status.now.me (say_body t body (core_of status.now (J.entries journal.old))) (core_of status.now (J.entries journal.new)) (W.lines wire.old) (W.lines wire.new) }
 {
     let held = journal.as_slice();
     let before = last_turn(held);

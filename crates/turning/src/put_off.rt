@@ -63,8 +63,8 @@ pub fn put_off<J: Journal, W: Wire<Frame>, R: VotingRule>(
     rule: &R,
     t: u32,
 )
-    ensures home { home journal.new ≡ home journal.old }
-    ensures turn { Performed status.old.me (put_off (votes rule.now) t (core_of status.old (entries journal.old))) (core_of status.new (entries journal.new)) (lines wire.old) (lines wire.new) }
+    ensures home { J.home journal.new ≡ J.home journal.old }
+    ensures turn { Performed status.old.me (put_off (R.votes rule.now) t (core_of status.old (J.entries journal.old))) (core_of status.new (J.entries journal.new)) (W.lines wire.old) (W.lines wire.new) }
 {
     let held = journal.as_slice();
     let full = held.len() >= JOURNAL_PLACES;

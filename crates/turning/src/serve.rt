@@ -31,9 +31,9 @@ pub fn serve<J: Journal, W: Wire<Frame>>(
     station: u8,
     place: u16,
 )
-    requires { place ≤ length (entries journal.old) }
-    ensures home { home journal.new ≡ home journal.old }
-    ensures turn { Performed status.now.me (serve t station place (core_of status.now (entries journal.old))) (core_of status.now (entries journal.new)) (lines wire.old) (lines wire.new) }
+    requires { place ≤ length (J.entries journal.old) }
+    ensures home { J.home journal.new ≡ J.home journal.old }
+    ensures turn { Performed status.now.me (serve t station place (core_of status.now (J.entries journal.old))) (core_of status.now (J.entries journal.new)) (W.lines wire.old) (W.lines wire.new) }
 {
     let held = journal.as_slice();
     let length = held.len();

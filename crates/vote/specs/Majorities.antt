@@ -1,8 +1,8 @@
 -- The three laws of a majority by weight, for any weights. Assumes nothing.
-use Rattle.std.specs.Prelude.{◌≡◌, ℕ, zero, suc, ◌+◌, ◌-◌, ◌*◌, ◌/◌, ◌%◌, ◌^◌, ◌<◌, ◌≤◌, true, false, ◌&&◌, ◌⊎◌, List, [], ◌∷◌, length, drop, nat_lt, slice_index, refl}
+use Rattle.std.specs.Prelude.{◌≡◌, ℕ, zero, suc, ◌+◌, ◌-◌, ◌*◌, ◌/◌, ◌%◌, ◌^◌, ◌<◌, ◌≤◌, true, false, ◌&&◌, ◌⊎◌, List, [], ◌∷◌, length, take, drop, nat_lt, slice_index, refl}
 use Rattle.std.proofs.Common.{sym, ap, ◌∙◌, inl, inr, arith, zero-mul, one-mul}
 use Rattle.std.specs.Int.Count.{ones, ones_step}
-use Rattle.std.proofs.lemmas.List.{at_drop_more, at_drop_all, length-replicate}
+use Rattle.std.proofs.lemmas.List.{at_drop_more, at_drop_all, length-replicate, length-take-le}
 use Rattle.std.proofs.lemmas.Bool.{ltb-true, lt-ltb, and_parts, le-ltb, and_from, and_left, eq-eqb, eqb-true}
 use Rattle.vote.specs.Mask.{has, everyone, Within, Share}
 use Rattle.vote.specs.Majority.{total, weight, majority, heads}
@@ -124,6 +124,10 @@ weight_heads (suc n) m below = omega (arith, ones_step m, weight_heads n (m / 2)
 
 pub length_heads : (n : ℕ) → length (heads n) ≡ n
 length_heads n = length-replicate n 1
+
+-- the first n of m weights are n
+pub length_taken : (n m : ℕ) (ws : List ℕ) → n ≤ m → length ws ≡ m → length (take n ws) ≡ n
+length_taken n m ws few all = length-take-le n ws (omega arith)
 
 -- more than half of n heads, as a count of the mask's bits
 pub heads_on : (n m : ℕ) → m ≤ everyone n → majority (heads n) m ≡ nat_lt n (2 * ones m)

@@ -3,7 +3,9 @@ ghost use Rattle.std.specs.Prelude.{◌≡◌, ◌^◌, ◌<◌, ◌≤◌, true
 ghost use Rattle.protocol.specs.Limits.{max_stations};
 ghost use Rattle.vote.specs.Majority.{total, weight, majority};
 ghost use Rattle.vote.specs.Refused.{each_fits, weights_refused};
-ghost use Rattle.std.proofs.Common.{rules, arith};
+ghost use Rattle.std.proofs.Common.{subst, sym, arith, rules};
+ghost use Rattle.vote.specs.Majorities.{length_taken, majority_roll, majority_shares, majority_grows, majority_everyone};
+ghost use Rattle.vote.specs.Mask.{Share, everyone};
 
 use crate::majority::more_than_half;
 use crate::mask::whole;
@@ -100,13 +102,17 @@ impl VotingRule for Weights {
 
     ghost few = { first_of (Prim.search rules, Prim.grind (arith, Self.row.coded.inj)) };
 
-    ghost within = { first_of (Prim.search rules, Prim.grind (arith, Self.row.coded.inj)) };
+    ghost within = { λ x m p. subst (λ k. m < 2 ^ k) (length_taken x.stations max_stations x.weights x.few x.places) (majority_roll (take x.stations x.weights) m p) };
 
-    ghost shares = { first_of (Prim.search rules, Prim.grind (arith, Self.row.coded.inj)) };
+    ghost shares = { λ x a b p q. subst (λ k. Share k a b) (length_taken x.stations max_stations x.weights x.few x.places) (majority_shares (take x.stations x.weights) a b p q) };
 
-    ghost grows = { first_of (Prim.search rules, Prim.grind (arith, Self.row.coded.inj)) };
+    ghost grows = { λ x a b sub below p.
+        majority_grows (take x.stations x.weights) a b sub
+        (subst (λ k. b < 2 ^ k) (sym (length_taken x.stations max_stations x.weights x.few x.places)) below) p };
 
-    ghost all = { first_of (Prim.search rules, Prim.grind (arith, Self.row.coded.inj)) };
+    ghost all = { λ x.
+        subst (λ k. majority (take x.stations x.weights) (everyone k) ≡ true) (length_taken x.stations max_stations x.weights x.few x.places)
+        (majority_everyone (take x.stations x.weights) (subst (λ k. 0 < k) x.summed x.positive)) };
 
     fn roll(&self) -> u8 {
         self.stations

@@ -11,20 +11,20 @@ use wires::wire::Wire;
 
 // Posts one frame. The sender's own line stays as it is.
 pub fn post_one<T: Copy, W: Wire<T>>(wire: &mut W, sender: u8, frame: T) -> Result<(), Refusal>
-    ensures value { result ≡ answer (lines wire.old).roll sender tt }
-    ensures after { lines wire.new ≡ posted (lines wire.old) sender frame }
-    ensures same { (lines wire.old).roll ≤ sender → wire.new ≡ wire.old }
-    ensures own { (lines wire.new).at sender ≡ (lines wire.old).at sender }
+    ensures value { result ≡ answer (W.lines wire.old).roll sender tt }
+    ensures after { W.lines wire.new ≡ posted (W.lines wire.old) sender frame }
+    ensures same { (W.lines wire.old).roll ≤ sender → wire.new ≡ wire.old }
+    ensures own { (W.lines wire.new).at sender ≡ (W.lines wire.old).at sender }
 {
     wire.post(sender, frame)
 }
 
 // Posts some frames of one sender. The other stations get them in the order of posting.
 pub fn post_all<T: Copy, W: Wire<T>>(wire: &mut W, sender: u8, frames: &[T]) -> Result<(), Refusal>
-    ensures value { result ≡ answer (lines wire.old).roll sender tt }
-    ensures after { lines wire.new ≡ posted_all (lines wire.old) sender frames.now }
-    ensures same { (lines wire.old).roll ≤ sender → wire.new ≡ wire.old }
-    ensures order { sender < (lines wire.old).roll → InOrder (lines wire.old) sender frames.now (lines wire.new) }
+    ensures value { result ≡ answer (W.lines wire.old).roll sender tt }
+    ensures after { W.lines wire.new ≡ posted_all (W.lines wire.old) sender frames.now }
+    ensures same { (W.lines wire.old).roll ≤ sender → wire.new ≡ wire.old }
+    ensures order { sender < (W.lines wire.old).roll → InOrder (W.lines wire.old) sender frames.now (W.lines wire.new) }
 {
     if let Err(refusal) = wire.count(sender) {
         return Err(refusal);
@@ -40,10 +40,10 @@ pub fn count_and_take<T, W: Wire<T>>(
     wire: &mut W,
     station: u8,
 ) -> Result<(usize, Option<T>), Refusal>
-    ensures value { result ≡ answer (lines wire.old).roll station (length ((lines wire.old).at station), oldest ((lines wire.old).at station)) }
-    ensures after { lines wire.new ≡ taken (lines wire.old) station }
-    ensures same { (lines wire.old).at station ≡ [] → wire.new ≡ wire.old }
-    ensures honest { elim result [ Ok p ↦ is_some p.1 ≡ nat_lt 0 p.0 | Err _ ↦ (lines wire.old).roll ≤ station ] }
+    ensures value { result ≡ answer (W.lines wire.old).roll station (length ((W.lines wire.old).at station), oldest ((W.lines wire.old).at station)) }
+    ensures after { W.lines wire.new ≡ taken (W.lines wire.old) station }
+    ensures same { (W.lines wire.old).at station ≡ [] → wire.new ≡ wire.old }
+    ensures honest { elim result [ Ok p ↦ is_some p.1 ≡ nat_lt 0 p.0 | Err _ ↦ (W.lines wire.old).roll ≤ station ] }
 {
     let waiting = match wire.count(station) {
         Ok(waiting) => waiting,
@@ -57,9 +57,9 @@ pub fn count_and_take<T, W: Wire<T>>(
 
 // Takes frames until none is left, and answers how many there were: as many as the line's count was.
 pub fn drain<T: Copy, W: Wire<T>>(wire: &mut W, station: u8) -> Result<usize, Refusal>
-    ensures value { result ≡ answer (lines wire.old).roll station (length ((lines wire.old).at station)) }
-    ensures after { lines wire.new ≡ cleared (lines wire.old) station }
-    ensures same { (lines wire.old).at station ≡ [] → wire.new ≡ wire.old }
+    ensures value { result ≡ answer (W.lines wire.old).roll station (length ((W.lines wire.old).at station)) }
+    ensures after { W.lines wire.new ≡ cleared (W.lines wire.old) station }
+    ensures same { (W.lines wire.old).at station ≡ [] → wire.new ≡ wire.old }
 {
     let mut frames = 0;
     loop {
@@ -81,10 +81,10 @@ pub fn post_and_take<T: Copy, W: Wire<T>>(
     station: u8,
     frame: T,
 ) -> Result<Option<T>, Refusal>
-    ensures value { result ≡ post_and_take_answer (lines wire.old) sender station frame }
-    ensures after { lines wire.new ≡ post_and_take_lines (lines wire.old) sender station frame }
+    ensures value { result ≡ post_and_take_answer (W.lines wire.old) sender station frame }
+    ensures after { W.lines wire.new ≡ post_and_take_lines (W.lines wire.old) sender station frame }
     ensures same { is_ok result ≡ false → wire.new ≡ wire.old }
-    ensures next { sender < (lines wire.old).roll → station < (lines wire.old).roll → (station ≢ sender) → (lines wire.old).at station ≡ [] → result ≡ Ok (Some frame) }
+    ensures next { sender < (W.lines wire.old).roll → station < (W.lines wire.old).roll → (station ≢ sender) → (W.lines wire.old).at station ≡ [] → result ≡ Ok (Some frame) }
 {
     if let Err(refusal) = wire.count(station) {
         return Err(refusal);

@@ -16,8 +16,8 @@ use wires::wire::Wire;
 
 // Takes the oldest frame of a station's line off the wire.
 fn next_frame<W: Wire<Frame>>(wire: &mut W, at: u8) -> Option<Frame>
-    ensures value { result ≡ oldest ((lines wire.old).at at) }
-    ensures after { lines wire.new ≡ taken (lines wire.old) at }
+    ensures value { result ≡ oldest ((W.lines wire.old).at at) }
+    ensures after { W.lines wire.new ≡ taken (W.lines wire.old) at }
     ensures same { elim result [ Some f ↦ Unit {0} | None ↦ wire.new ≡ wire.old ] }
 {
     match wire.take(at) {
@@ -29,8 +29,8 @@ fn next_frame<W: Wire<Frame>>(wire: &mut W, at: u8) -> Option<Frame>
 impl<W: Wire<Frame>, B: Book, R: VotingRule> Ring<W, B, R> {
     // Puts a note in a station's outbox.
     pub fn note(&mut self, at: u32, note: Note) -> Result<(), Refusal>
-        ensures value { answer_number result ≡ (step (ruling size votes next self.old) (meaning means lines self.old) (call.Note at note)).0 }
-        ensures after { meaning means lines self.new ≡ (step (ruling size votes next self.old) (meaning means lines self.old) (call.Note at note)).1 }
+        ensures value { answer_number result ≡ (step (ruling R.size R.votes B.next self.old) (meaning B.means W.lines self.old) (call.Note at note)).0 }
+        ensures after { meaning B.means W.lines self.new ≡ (step (ruling R.size R.votes B.next self.old) (meaning B.means W.lines self.old) (call.Note at note)).1 }
         ensures rule { self.new.rule ≡ self.old.rule }
         ensures same { elim result [ Ok k ↦ Unit {0} | Err e ↦ self.new ≡ self.old ] }
     {
@@ -46,8 +46,8 @@ impl<W: Wire<Frame>, B: Book, R: VotingRule> Ring<W, B, R> {
 
     // Performs the next whole turn.
     pub fn turn(&mut self) -> Result<(), Refusal>
-        ensures value { answer_number result ≡ (step (ruling size votes next self.old) (meaning means lines self.old) call.Turn).0 }
-        ensures after { meaning means lines self.new ≡ (step (ruling size votes next self.old) (meaning means lines self.old) call.Turn).1 }
+        ensures value { answer_number result ≡ (step (ruling R.size R.votes B.next self.old) (meaning B.means W.lines self.old) call.Turn).0 }
+        ensures after { meaning B.means W.lines self.new ≡ (step (ruling R.size R.votes B.next self.old) (meaning B.means W.lines self.old) call.Turn).1 }
         ensures rule { self.new.rule ≡ self.old.rule }
         ensures same { elim result [ Ok k ↦ Unit {0} | Err e ↦ self.new ≡ self.old ] }
     {
@@ -65,8 +65,8 @@ impl<W: Wire<Frame>, B: Book, R: VotingRule> Ring<W, B, R> {
 
     // Lets a station take its oldest frame.
     pub fn take(&mut self, at: u32) -> Result<(), Refusal>
-        ensures value { answer_number result ≡ (step (ruling size votes next self.old) (meaning means lines self.old) (call.Take at)).0 }
-        ensures after { meaning means lines self.new ≡ (step (ruling size votes next self.old) (meaning means lines self.old) (call.Take at)).1 }
+        ensures value { answer_number result ≡ (step (ruling R.size R.votes B.next self.old) (meaning B.means W.lines self.old) (call.Take at)).0 }
+        ensures after { meaning B.means W.lines self.new ≡ (step (ruling R.size R.votes B.next self.old) (meaning B.means W.lines self.old) (call.Take at)).1 }
         ensures rule { self.new.rule ≡ self.old.rule }
         ensures same { elim result [ Ok k ↦ Unit {0} | Err e ↦ self.new ≡ self.old ] }
     {
@@ -88,8 +88,8 @@ impl<W: Wire<Frame>, B: Book, R: VotingRule> Ring<W, B, R> {
 
     // Removes the oldest frame of a station's line unread.
     pub fn lose(&mut self, at: u32) -> Result<(), Refusal>
-        ensures value { answer_number result ≡ (step (ruling size votes next self.old) (meaning means lines self.old) (call.Lose at)).0 }
-        ensures after { meaning means lines self.new ≡ (step (ruling size votes next self.old) (meaning means lines self.old) (call.Lose at)).1 }
+        ensures value { answer_number result ≡ (step (ruling R.size R.votes B.next self.old) (meaning B.means W.lines self.old) (call.Lose at)).0 }
+        ensures after { meaning B.means W.lines self.new ≡ (step (ruling R.size R.votes B.next self.old) (meaning B.means W.lines self.old) (call.Lose at)).1 }
         ensures rule { self.new.rule ≡ self.old.rule }
         ensures same { elim result [ Ok k ↦ Unit {0} | Err e ↦ self.new ≡ self.old ] }
     {
@@ -104,8 +104,8 @@ impl<W: Wire<Frame>, B: Book, R: VotingRule> Ring<W, B, R> {
 
     // Puts a station out.
     pub fn stop(&mut self, at: u32) -> Result<(), Refusal>
-        ensures value { answer_number result ≡ (step (ruling size votes next self.old) (meaning means lines self.old) (call.Stop at)).0 }
-        ensures after { meaning means lines self.new ≡ (step (ruling size votes next self.old) (meaning means lines self.old) (call.Stop at)).1 }
+        ensures value { answer_number result ≡ (step (ruling R.size R.votes B.next self.old) (meaning B.means W.lines self.old) (call.Stop at)).0 }
+        ensures after { meaning B.means W.lines self.new ≡ (step (ruling R.size R.votes B.next self.old) (meaning B.means W.lines self.old) (call.Stop at)).1 }
         ensures rule { self.new.rule ≡ self.old.rule }
         ensures same { elim result [ Ok k ↦ Unit {0} | Err e ↦ self.new ≡ self.old ] }
     {
@@ -121,8 +121,8 @@ impl<W: Wire<Frame>, B: Book, R: VotingRule> Ring<W, B, R> {
 
     // Makes a station that is out joining, and clears its line.
     pub fn enter(&mut self, at: u32) -> Result<(), Refusal>
-        ensures value { answer_number result ≡ (step (ruling size votes next self.old) (meaning means lines self.old) (call.Enter at)).0 }
-        ensures after { meaning means lines self.new ≡ (step (ruling size votes next self.old) (meaning means lines self.old) (call.Enter at)).1 }
+        ensures value { answer_number result ≡ (step (ruling R.size R.votes B.next self.old) (meaning B.means W.lines self.old) (call.Enter at)).0 }
+        ensures after { meaning B.means W.lines self.new ≡ (step (ruling R.size R.votes B.next self.old) (meaning B.means W.lines self.old) (call.Enter at)).1 }
         ensures rule { self.new.rule ≡ self.old.rule }
         ensures same { elim result [ Ok k ↦ Unit {0} | Err e ↦ self.new ≡ self.old ] }
     {

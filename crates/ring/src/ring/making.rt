@@ -55,7 +55,7 @@ fn recruit<B: StartingBook + Drop>(
 impl<W: Roll<Frame> + Drop, B: StartingBook + Drop, R: VotingRule + Drop> Ring<W, B, R> {
     // A ring whose stations are new and whose lines are empty, before turn 1. The wire and the rule have to be for one roll.
     pub fn new(heap: Global, wire: W, rule: R, book: &B) -> Result<Ring<W, B, R>, MakeError>
-        ensures { elim result [ Ok v ↦ (ring_refused (W.Wire.lines wire).roll (size rule) ≡ None) × (meaning B.Book.means W.Wire.lines v ≡ new_ring (ruling size votes B.Book.next v) (B.Book.means book.now)) × (v.rule ≡ rule) | Err e ↦ NotMade (ring_refused (W.Wire.lines wire).roll (size rule)) e ] }
+        ensures { elim result [ Ok v ↦ (ring_refused (W.Wire.lines wire).roll (R.size rule) ≡ None) × (meaning B.Book.means W.Wire.lines v ≡ new_ring (ruling R.size R.votes B.Book.next v) (B.Book.means book.now)) × (v.rule ≡ rule) | Err e ↦ NotMade (ring_refused (W.Wire.lines wire).roll (R.size rule)) e ] }
     {
         let roll = rule.roll();
         if wire.roll() != roll {

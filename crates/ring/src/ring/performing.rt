@@ -28,8 +28,8 @@ fn number(answer: Result<(), Refusal>) -> u8
 impl<W: Wire<Frame>, B: Book, R: VotingRule> Ring<W, B, R> {
     // Makes one call, and answers its number.
     pub fn call(&mut self, call: Call) -> u8
-        ensures value { result ≡ (step (ruling size votes next self.old) (meaning means lines self.old) call).0 }
-        ensures after { meaning means lines self.new ≡ (step (ruling size votes next self.old) (meaning means lines self.old) call).1 }
+        ensures value { result ≡ (step (ruling R.size R.votes B.next self.old) (meaning B.means W.lines self.old) call).0 }
+        ensures after { meaning B.means W.lines self.new ≡ (step (ruling R.size R.votes B.next self.old) (meaning B.means W.lines self.old) call).1 }
         ensures rule { self.new.rule ≡ self.old.rule }
         ensures same { (result ≢ 0) → self.new ≡ self.old }
     {
@@ -46,7 +46,7 @@ impl<W: Wire<Frame>, B: Book, R: VotingRule> Ring<W, B, R> {
 
     // Makes some calls in order, and answers their numbers. Where memory is wanting for these, no call is made.
     pub fn call_all(&mut self, heap: Global, calls: &[Call]) -> Result<Vec<u8>, AllocError>
-        ensures calls { elim result [ Ok v ↦ (v.items ≡ answers (ruling size votes next self.old) (meaning means lines self.old) calls.now) × (meaning means lines self.new ≡ run (ruling size votes next self.old) (meaning means lines self.old) calls.now) | Err e ↦ self.new ≡ self.old ] }
+        ensures calls { elim result [ Ok v ↦ (v.items ≡ answers (ruling R.size R.votes B.next self.old) (meaning B.means W.lines self.old) calls.now) × (meaning B.means W.lines self.new ≡ run (ruling R.size R.votes B.next self.old) (meaning B.means W.lines self.old) calls.now) | Err e ↦ self.new ≡ self.old ] }
         ensures rule { self.new.rule ≡ self.old.rule }
     {
         let mut numbers = Vec::with_capacity(heap, calls.len())?;
@@ -66,7 +66,7 @@ pub fn perform<W: Roll<Frame> + Drop, B: StartingBook + Drop, R: VotingRule + Dr
     book: &B,
     calls: &[Call],
 ) -> Result<(Ring<W, B, R>, Vec<u8>), MakeError>
-    ensures { elim result [ Ok p ↦ (ring_refused (W.Wire.lines wire).roll (size rule) ≡ None) × (p.0.rule ≡ rule) × Performed B.Book.means W.Wire.lines size votes B.Book.next (B.Book.means book.now) calls.now p.0 p.1.items | Err e ↦ NotMade (ring_refused (W.Wire.lines wire).roll (size rule)) e ] }
+    ensures { elim result [ Ok p ↦ (ring_refused (W.Wire.lines wire).roll (R.size rule) ≡ None) × (p.0.rule ≡ rule) × Performed B.Book.means W.Wire.lines R.size R.votes B.Book.next (B.Book.means book.now) calls.now p.0 p.1.items | Err e ↦ NotMade (ring_refused (W.Wire.lines wire).roll (R.size rule)) e ] }
 {
     let mut ring = Ring::new(heap, wire, rule, book)?;
     let Ok(numbers) = ring.call_all(heap, calls) else {

@@ -16,7 +16,7 @@ use wires::wire::Wire;
 impl<W: Wire<Frame>, B: Book, R> Ring<W, B, R> {
     // A station of the roll, to be asked.
     pub fn station(&self, at: u32) -> Result<&Station<B>, Refusal>
-        ensures { elim result [ Ok x ↦ slice_get (meaning means lines self.now).stations at ≡ Some (model means x.now) | Err e ↦ (slice_get (meaning means lines self.now).stations at ≡ None) × (e ≡ NotOnRoll) ] }
+        ensures { elim result [ Ok x ↦ slice_get (meaning B.means W.lines self.now).stations at ≡ Some (model B.means x.now) | Err e ↦ (slice_get (meaning B.means W.lines self.now).stations at ≡ None) × (e ≡ NotOnRoll) ] }
     {
         let s = at as usize;
         if s >= self.stations.len() {
@@ -27,7 +27,7 @@ impl<W: Wire<Frame>, B: Book, R> Ring<W, B, R> {
 
     // How many frames wait in a station's line.
     pub fn frames_waiting(&self, at: u32) -> Result<usize, Refusal>
-        ensures { result ≡ asked (meaning means lines self.now) at (frames_for (meaning means lines self.now) at) }
+        ensures { result ≡ asked (meaning B.means W.lines self.now) at (frames_for (meaning B.means W.lines self.now) at) }
     {
         if at as usize >= self.stations.len() {
             return Err(Refusal::NotOnRoll);
@@ -40,7 +40,7 @@ impl<W: Wire<Frame>, B: Book, R> Ring<W, B, R> {
 
     // The number of the next turn.
     pub fn next_turn(&self) -> u32
-        ensures { result ≡ (meaning means lines self.now).turn }
+        ensures { result ≡ (meaning B.means W.lines self.now).turn }
     {
         self.turn
     }

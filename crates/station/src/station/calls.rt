@@ -16,8 +16,8 @@ use vote::rule::VotingRule;
 impl<B: Book> Station<B> {
     // Puts a note in the outbox.
     pub fn note(&mut self, note: Note) -> Result<(), Refusal>
-        ensures value { result ≡ (note_call note (model means self.old)).0 }
-        ensures after { model means self.new ≡ (note_call note (model means self.old)).1 }
+        ensures value { result ≡ (note_call note (model B.means self.old)).0 }
+        ensures after { model B.means self.new ≡ (note_call note (model B.means self.old)).1 }
         ensures same { elim result [ Ok k ↦ Unit {0} | Err e ↦ Unchanged self.old self.new ] }
     {
         if self.status.state.is_out() {
@@ -31,8 +31,8 @@ impl<B: Book> Station<B> {
 
     // Takes a frame.
     pub fn take<R: VotingRule>(&mut self, rule: &R, frame: &Frame) -> Result<(), Refusal>
-        ensures value { result ≡ (take_call next (votes rule.now) frame.now (model means self.old)).0 }
-        ensures after { model means self.new ≡ (take_call next (votes rule.now) frame.now (model means self.old)).1 }
+        ensures value { result ≡ (take_call B.next (R.votes rule.now) frame.now (model B.means self.old)).0 }
+        ensures after { model B.means self.new ≡ (take_call B.next (R.votes rule.now) frame.now (model B.means self.old)).1 }
         ensures same { elim result [ Ok k ↦ Unit {0} | Err e ↦ Unchanged self.old self.new ] }
     {
         if self.status.state.is_out() {
@@ -50,8 +50,8 @@ impl<B: Book> Station<B> {
 
     // Puts the station out.
     pub fn stop(&mut self) -> Result<(), Refusal>
-        ensures value { result ≡ (stop_call (model means self.old)).0 }
-        ensures after { model means self.new ≡ (stop_call (model means self.old)).1 }
+        ensures value { result ≡ (stop_call (model B.means self.old)).0 }
+        ensures after { model B.means self.new ≡ (stop_call (model B.means self.old)).1 }
         ensures same { elim result [ Ok k ↦ Unit {0} | Err e ↦ Unchanged self.old self.new ] }
     {
         if self.status.state.is_out() {
@@ -63,8 +63,8 @@ impl<B: Book> Station<B> {
 
     // Lets a station that is out ask to be let in again. Its ring clears its line.
     pub fn enter(&mut self) -> Result<(), Refusal>
-        ensures value { result ≡ (enter_call next (model means self.old)).0 }
-        ensures after { model means self.new ≡ (enter_call next (model means self.old)).1 }
+        ensures value { result ≡ (enter_call B.next (model B.means self.old)).0 }
+        ensures after { model B.means self.new ≡ (enter_call B.next (model B.means self.old)).1 }
         ensures same { elim result [ Ok k ↦ Unit {0} | Err e ↦ Unchanged self.old self.new ] }
     {
         if !self.status.state.is_out() {

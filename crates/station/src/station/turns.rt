@@ -23,8 +23,8 @@ impl<B: Book> Station<B> {
         rule: &R,
         t: u32,
     ) -> Result<Token, Refusal>
-        ensures value { result ≡ (open_station (votes rule.now) t (model means self.old)).0 }
-        ensures after { Acted self.old.status.me (open_station (votes rule.now) t (model means self.old)).1 (model means self.new) (W.Wire.lines wire.old) (W.Wire.lines wire.new) }
+        ensures value { result ≡ (open_station (R.votes rule.now) t (model B.means self.old)).0 }
+        ensures after { Acted self.old.status.me (open_station (R.votes rule.now) t (model B.means self.old)).1 (model B.means self.new) (W.Wire.lines wire.old) (W.Wire.lines wire.new) }
         ensures same { elim result [ Ok k ↦ Unit {0} | Err e ↦ Unchanged self.old self.new × (wire.new ≡ wire.old) ] }
     {
         open(&mut self.status, &mut self.journal, wire, rule, t)
@@ -32,8 +32,8 @@ impl<B: Book> Station<B> {
 
     // Says the oldest note, or tells that none is due. The token is used up and handed back.
     pub fn say<W: Wire<Frame>>(&mut self, wire: &mut W, token: Token) -> (Token, bool)
-        ensures value { result ≡ (say_station token (model means self.old)).0 }
-        ensures after { Acted self.old.status.me (say_station token (model means self.old)).1 (model means self.new) (W.Wire.lines wire.old) (W.Wire.lines wire.new) }
+        ensures value { result ≡ (say_station token (model B.means self.old)).0 }
+        ensures after { Acted self.old.status.me (say_station token (model B.means self.old)).1 (model B.means self.new) (W.Wire.lines wire.old) (W.Wire.lines wire.new) }
         ensures same { result.1 ≡ false → Unchanged self.old self.new × (wire.new ≡ wire.old) }
     {
         say(
@@ -47,7 +47,7 @@ impl<B: Book> Station<B> {
 
     // Ends the turn, and the token with it.
     pub fn pass<W: Wire<Frame>>(&mut self, wire: &mut W, token: Token)
-        ensures { Acted self.old.status.me (pass_station next token (model means self.old)) (model means self.new) (W.Wire.lines wire.old) (W.Wire.lines wire.new) }
+        ensures { Acted self.old.status.me (pass_station B.next token (model B.means self.old)) (model B.means self.new) (W.Wire.lines wire.old) (W.Wire.lines wire.new) }
     {
         pass(&mut self.status, &self.journal, wire, &mut self.book, token);
     }
@@ -59,8 +59,8 @@ impl<B: Book> Station<B> {
         rule: &R,
         t: u32,
     ) -> Result<(), Refusal>
-        ensures value { result ≡ (turn_station next (votes rule.now) t (model means self.old)).0 }
-        ensures after { Acted self.old.status.me (turn_station next (votes rule.now) t (model means self.old)).1 (model means self.new) (W.Wire.lines wire.old) (W.Wire.lines wire.new) }
+        ensures value { result ≡ (turn_station B.next (R.votes rule.now) t (model B.means self.old)).0 }
+        ensures after { Acted self.old.status.me (turn_station B.next (R.votes rule.now) t (model B.means self.old)).1 (model B.means self.new) (W.Wire.lines wire.old) (W.Wire.lines wire.new) }
         ensures same { elim result [ Ok k ↦ Unit {0} | Err e ↦ Unchanged self.old self.new × (wire.new ≡ wire.old) ] }
     {
         turn(

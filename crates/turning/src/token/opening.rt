@@ -36,9 +36,9 @@ fn open_steps<J: Journal, W: Wire<Frame>, R: VotingRule>(
     rule: &R,
     t: u32,
 ) -> u8
-    ensures home { home journal.new ≡ home journal.old }
-    ensures left { result ≡ (open_turn (votes rule.now) t (core_of status.old (entries journal.old))).0 }
-    ensures turn { Performed status.old.me (open_turn (votes rule.now) t (core_of status.old (entries journal.old))).1 (core_of status.new (entries journal.new)) (lines wire.old) (lines wire.new) }
+    ensures home { J.home journal.new ≡ J.home journal.old }
+    ensures left { result ≡ (open_turn (R.votes rule.now) t (core_of status.old (J.entries journal.old))).0 }
+    ensures turn { Performed status.old.me (open_turn (R.votes rule.now) t (core_of status.old (J.entries journal.old))).1 (core_of status.new (J.entries journal.new)) (W.lines wire.old) (W.lines wire.new) }
 {
     if !status.state.is_running() {
         return 0;
@@ -62,11 +62,11 @@ pub fn open<J: Journal, W: Wire<Frame>, R: VotingRule>(
     rule: &R,
     t: u32,
 ) -> Result<Token, Refusal>
-    requires { status.old.firm ≤ length (entries journal.old) }
-    ensures settled { status.new.firm ≤ length (entries journal.new) }
-    ensures home { home journal.new ≡ home journal.old }
-    ensures value { result ≡ (open_call (votes rule.now) t (core_of status.old (entries journal.old))).0 }
-    ensures turn { Performed status.old.me (open_call (votes rule.now) t (core_of status.old (entries journal.old))).1 (core_of status.new (entries journal.new)) (lines wire.old) (lines wire.new) }
+    requires { status.old.firm ≤ length (J.entries journal.old) }
+    ensures settled { status.new.firm ≤ length (J.entries journal.new) }
+    ensures home { J.home journal.new ≡ J.home journal.old }
+    ensures value { result ≡ (open_call (R.votes rule.now) t (core_of status.old (J.entries journal.old))).0 }
+    ensures turn { Performed status.old.me (open_call (R.votes rule.now) t (core_of status.old (J.entries journal.old))).1 (core_of status.new (J.entries journal.new)) (W.lines wire.old) (W.lines wire.new) }
     ensures same { elim result [ Ok k ↦ Unit {0} | Err e ↦ (status.new ≡ status.old) × (journal.new ≡ journal.old) × (wire.new ≡ wire.old) ] }
 {
     if !is_due(status, journal.as_slice(), t) {

@@ -22,10 +22,10 @@ fn pass_on<J: Journal, W: Wire<Frame>, B: Book>(
     wire: &mut W,
     book: &mut B,
 )
-    requires { status.old.firm ≤ length (entries journal.now) }
-    ensures settled { status.new.firm ≤ length (entries journal.now) }
-    ensures turn { Performed status.old.me (pass_as status.old.state (core_of status.old (entries journal.now))) (core_of status.new (entries journal.now)) (lines wire.old) (lines wire.new) }
-    ensures book { means book.new ≡ fed next (means book.old) (newly_firm status.old.firm (core_of status.new (entries journal.now))) }
+    requires { status.old.firm ≤ length (J.entries journal.now) }
+    ensures settled { status.new.firm ≤ length (J.entries journal.now) }
+    ensures turn { Performed status.old.me (pass_as status.old.state (core_of status.old (J.entries journal.now))) (core_of status.new (J.entries journal.now)) (W.lines wire.old) (W.lines wire.new) }
+    ensures book { B.means book.new ≡ fed B.next (B.means book.old) (newly_firm status.old.firm (core_of status.new (J.entries journal.now))) }
 {
     let sender = status.me;
     let end = end_of(journal.as_slice());
@@ -51,10 +51,10 @@ pub fn pass<J: Journal, W: Wire<Frame>, B: Book>(
     book: &mut B,
     token: Token,
 )
-    requires { status.old.firm ≤ length (entries journal.now) }
-    ensures settled { status.new.firm ≤ length (entries journal.now) }
-    ensures turn { Performed status.old.me (pass_turn token (core_of status.old (entries journal.now))) (core_of status.new (entries journal.now)) (lines wire.old) (lines wire.new) }
-    ensures book { means book.new ≡ fed next (means book.old) (newly_firm status.old.firm (core_of status.new (entries journal.now))) }
+    requires { status.old.firm ≤ length (J.entries journal.now) }
+    ensures settled { status.new.firm ≤ length (J.entries journal.now) }
+    ensures turn { Performed status.old.me (pass_turn token (core_of status.old (J.entries journal.now))) (core_of status.new (J.entries journal.now)) (W.lines wire.old) (W.lines wire.new) }
+    ensures book { B.means book.new ≡ fed B.next (B.means book.old) (newly_firm status.old.firm (core_of status.new (J.entries journal.now))) }
 {
     let own = token.is_own(status, journal.as_slice());
     let Token {

@@ -32,12 +32,12 @@ pub fn say<J: Journal, W: Wire<Frame>>(
     wire: &mut W,
     token: Token,
 ) -> (Token, bool)
-    requires { status.now.firm ≤ length (entries journal.old) }
-    ensures settled { status.now.firm ≤ length (entries journal.new) }
-    ensures home { home journal.new ≡ home journal.old }
-    ensures value { result ≡ (say_next token (waiting outbox.old) (core_of status.now (entries journal.old))).0 }
-    ensures outbox { waiting outbox.new ≡ (say_next token (waiting outbox.old) (core_of status.now (entries journal.old))).1.0 }
-    ensures turn { Performed status.now.me (say_next token (waiting outbox.old) (core_of status.now (entries journal.old))).1.1 (core_of status.now (entries journal.new)) (lines wire.old) (lines wire.new) }
+    requires { status.now.firm ≤ length (J.entries journal.old) }
+    ensures settled { status.now.firm ≤ length (J.entries journal.new) }
+    ensures home { J.home journal.new ≡ J.home journal.old }
+    ensures value { result ≡ (say_next token (waiting outbox.old) (core_of status.now (J.entries journal.old))).0 }
+    ensures outbox { waiting outbox.new ≡ (say_next token (waiting outbox.old) (core_of status.now (J.entries journal.old))).1.0 }
+    ensures turn { Performed status.now.me (say_next token (waiting outbox.old) (core_of status.now (J.entries journal.old))).1.1 (core_of status.now (J.entries journal.new)) (W.lines wire.old) (W.lines wire.new) }
     ensures same { result.1 ≡ false → (journal.new ≡ journal.old) × (outbox.new ≡ outbox.old) × (wire.new ≡ wire.old) }
 {
     if !may_say(status, journal.as_slice(), &token) {
