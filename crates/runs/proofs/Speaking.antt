@@ -141,9 +141,9 @@ module _ (n : ℕ) (vote : ℕ → Bool) (laws : Laws n vote) (small : n ≤ 8) 
         (within_roll n (mask_of n alive) rest (mask_below n alive) (λ q l e. rest_keeps q l (sym (has_mask n alive q l) ∙ e)))
         votes
 
-    and-true : (b : Bool) → b ≡ (b && not false)
-    and-true true = refl
-    and-true false = refl
+    and_true : (b : Bool) → b ≡ (b && not false)
+    and_true true = refl
+    and_true false = refl
 
     spoke_none : gone_of m ≡ 0 → Spoke 1 m []
     unfolding frames_of
@@ -158,7 +158,7 @@ module _ (n : ℕ) (vote : ℕ → Bool) (laws : Laws n vote) (small : n ≤ 8) 
       firm = refl;
       few = omega arith;
       keeps = tt;
-      newest = λ k. and-true (has (view m) k) ∙ ap (λ z. has (view m) k && not z) (sym (ap (λ g. has g k) e ∙ has_none k));
+      newest = λ k. and_true (has (view m) k) ∙ ap (λ z. has (view m) k && not z) (sym (ap (λ g. has g k) e ∙ has_none k));
       room = roomy;
     }
 

@@ -10,11 +10,9 @@ use Rattle.station.proofs.station.Station.enter.Goals as goal
 pub invariant_of-self-3 : goal.invariant_of-self-3
 invariant_of-self-3 g c =
     let s = c.args.self.now in
-    let m = core_of s.status (vec_items s.journal.items) in (
-      c.settle_now.ensures.settled,
-      (
-        stays_sound m _ _ (grown_entered m)
-            (c.settle_now.ensures.station ∙ ap (λ (ps : List Peer). settle (with_state Joining (with_peers ps m))) c.clear_wishes.ensures) s.sound,
-        tt,
-      ),
-    )
+    let m = core_of s.status (vec_items s.journal.items) in
+    record {
+      settled = c.settle_now.ensures.settled;
+      sound = stays_sound m _ _ (grown_entered m)
+          (c.settle_now.ensures.station ∙ ap (λ (ps : List Peer). settle (with_state Joining (with_peers ps m))) c.clear_wishes.ensures) s.sound;
+    }

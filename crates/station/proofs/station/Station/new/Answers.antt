@@ -8,4 +8,4 @@ use Rattle.station.proofs.station.Station.new.Goals as goal
 pub invariant_of-result-3 : goal.invariant_of-result-3
 invariant_of-result-3 g c =
     let m = new_core c.args.me c.args.roll in
-    (omega arith, (ap (λ (j : List Entry). is_sound (with_journal j m)) c.in-Ok.ensures.items ∙ new_sound c.args.me c.args.roll, tt))
+    record { settled = omega arith; sound = ap (λ (j : List Entry). is_sound (with_journal j m)) c.in-Ok.ensures.items ∙ new_sound c.args.me c.args.roll }

@@ -7,7 +7,5 @@ use Rattle.station.proofs.station.Station.open.Goals as goal
 pub invariant_of-self : goal.invariant_of-self
 invariant_of-self g c =
     let s = c.args.self.now in
-    let m = core_of s.status (vec_items s.journal.items) in (
-      c.open.ensures.settled,
-      (stays_sound m _ _ (grown_open_call (g.R.VotingRule.votes c.args.rule.now) c.args.t m) c.open.ensures.turn.station s.sound, tt),
-    )
+    let m = core_of s.status (vec_items s.journal.items) in
+    record { settled = c.open.ensures.settled; sound = stays_sound m _ _ (grown_open_call (g.R.VotingRule.votes c.args.rule.now) c.args.t m) c.open.ensures.turn.station s.sound }

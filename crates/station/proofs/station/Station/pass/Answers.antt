@@ -8,4 +8,4 @@ pub invariant_of-self : goal.invariant_of-self
 invariant_of-self g c =
     let s = c.args.self.now in
     let m = core_of s.status (vec_items s.journal.items) in
-    (c.pass.ensures.settled, (stays_sound m _ _ (grown_pass c.args.token m) c.pass.ensures.turn.station s.sound, tt))
+    record { settled = c.pass.ensures.settled; sound = stays_sound m _ _ (grown_pass c.args.token m) c.pass.ensures.turn.station s.sound }

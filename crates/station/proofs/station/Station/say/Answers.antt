@@ -9,4 +9,4 @@ pub invariant_of-self : goal.invariant_of-self
 invariant_of-self g c =
     let s = c.args.self.now in
     let m = core_of s.status (vec_items s.journal.items) in
-    (c.say.ensures.settled, (stays_sound m _ _ (grown_said c.args.token (waiting s.outbox) m) c.say.ensures.turn.station s.sound, tt))
+    record { settled = c.say.ensures.settled; sound = stays_sound m _ _ (grown_said c.args.token (waiting s.outbox) m) c.say.ensures.turn.station s.sound }

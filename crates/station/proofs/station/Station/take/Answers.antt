@@ -7,7 +7,5 @@ use Rattle.station.proofs.station.Station.take.Goals as goal
 pub invariant_of-self : goal.invariant_of-self
 invariant_of-self g c =
     let s = c.args.self.now in
-    let m = core_of s.status (vec_items s.journal.items) in (
-      c.take.ensures.settled,
-      (stays_sound m _ _ (grown_taken (g.R.VotingRule.votes c.args.rule.now) c.args.frame.now m) c.take.ensures.station s.sound, tt),
-    )
+    let m = core_of s.status (vec_items s.journal.items) in
+    record { settled = c.take.ensures.settled; sound = stays_sound m _ _ (grown_taken (g.R.VotingRule.votes c.args.rule.now) c.args.frame.now m) c.take.ensures.station s.sound }

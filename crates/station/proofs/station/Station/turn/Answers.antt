@@ -9,4 +9,4 @@ pub invariant_of-self : goal.invariant_of-self
 invariant_of-self g c =
     let s = c.args.self.now in
     let m = core_of s.status (vec_items s.journal.items) in
-    (c.turn.ensures.settled, (stays_sound m _ _ (grown_turn (g.R.VotingRule.votes c.args.rule.now) c.args.t (waiting s.outbox) m) c.turn.ensures.turn.station s.sound, tt))
+    record { settled = c.turn.ensures.settled; sound = stays_sound m _ _ (grown_turn (g.R.VotingRule.votes c.args.rule.now) c.args.t (waiting s.outbox) m) c.turn.ensures.turn.station s.sound }
