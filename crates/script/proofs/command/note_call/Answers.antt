@@ -5,14 +5,14 @@ use Rattle.script.proofs.command.note_call.Goals as goal
 
 pub returns-in_err-a : goal.returns-in_err-a
 returns-in_err-a c =
-    rw c.from-residual-in_err-a.ensures
+    rw c.from_residual-in_err-a.ensures
     (λ s x h e.
     let q0 = next c.args.line.now (codes "at") _ s c.in_ok-at.rest _ _ free_at c.in_ok-at.ensures.1 h.0 refl c.in_ok-at.ensures.0 e in
     c.in_err-a.ensures x.a _ h.1 refl q0)
 
 pub returns-in_err-b : goal.returns-in_err-b
 returns-in_err-b c =
-    rw c.from-residual-in_err-b.ensures
+    rw c.from_residual-in_err-b.ensures
     (λ s x h e.
     let q0 = next c.args.line.now (codes "at") _ s c.in_ok-at.rest _ _ free_at c.in_ok-at.ensures.1 h.0 refl c.in_ok-at.ensures.0 e in
     let q1 = next c.args.line.now (codes "a") _ x.a c.in_ok-a.rest _ _ free_a c.in_ok-a.ensures.1 h.1 refl c.in_ok-a.ensures.0 q0 in
@@ -20,7 +20,7 @@ returns-in_err-b c =
 
 pub returns-in_err-c : goal.returns-in_err-c
 returns-in_err-c c =
-    rw c.from-residual-in_err-c.ensures
+    rw c.from_residual-in_err-c.ensures
     (λ s x h e.
     let q0 = next c.args.line.now (codes "at") _ s c.in_ok-at.rest _ _ free_at c.in_ok-at.ensures.1 h.0 refl c.in_ok-at.ensures.0 e in
     let q1 = next c.args.line.now (codes "a") _ x.a c.in_ok-a.rest _ _ free_a c.in_ok-a.ensures.1 h.1 refl c.in_ok-a.ensures.0 q0 in
@@ -29,7 +29,7 @@ returns-in_err-c c =
 
 pub returns-in_err-d : goal.returns-in_err-d
 returns-in_err-d c =
-    rw c.from-residual-in_err-d.ensures
+    rw c.from_residual-in_err-d.ensures
     (λ s x h e.
     let q0 = next c.args.line.now (codes "at") _ s c.in_ok-at.rest _ _ free_at c.in_ok-at.ensures.1 h.0 refl c.in_ok-at.ensures.0 e in
     let q1 = next c.args.line.now (codes "a") _ x.a c.in_ok-a.rest _ _ free_a c.in_ok-a.ensures.1 h.1 refl c.in_ok-a.ensures.0 q0 in

@@ -2,14 +2,14 @@
 use Rattle.std.proofs.Common.{◌≡◌, sym, ◌∙◌, arith}
 use Rattle.script.proofs.Decimal.{not_empty, first_digit, lone_zero, parsed, unparsed, text_of}
 use Rattle.script.proofs.number.number.Goals as goal
-use Rattle.script.proofs.number.number.Goals.{then-digits-eq0-via-then-digits-eq0, then_digits_eq0_via_else_digits_eq0+then_digits_eq43}
+use Rattle.script.proofs.number.number.Goals.{then-digits-eq0-via-then-digits-eq0, then-digits-eq0-via-else-digits-eq0+then-digits-eq43}
 
 pub returns-then-digits-eq0 : goal.returns-then-digits-eq0
 returns-then-digits-eq0 c =
     λ n h e.
     elim c.then-digits-eq0.branch [
       | then-digits-eq0-via-then-digits-eq0 w ↦ omega (arith, not_empty n _ h e)
-      | then_digits_eq0_via_else_digits_eq0+then_digits_eq43 w ↦ omega (arith, first_digit n _ h e)
+      | then-digits-eq0-via-else-digits-eq0+then-digits-eq43 w ↦ omega (arith, first_digit n _ h e)
     ]
 
 pub returns-then-digits-gt-LONE : goal.returns-then-digits-gt-LONE

@@ -9,7 +9,7 @@ pub invariant_of-result : goal.invariant_of-result
 invariant_of-result g c =
     let few = g.met.R.VotingRule.few c.args.rule in
     let many = as_many c.roll-roll.result (g.B.Book.means c.args.book.now) (model g.B.Book.means) (vec_items c.in-Ok.stations) c.in-Ok.ensures in
-    (omega arith, (omega arith, tt))
+    record { few = omega arith; begun = omega arith }
 
 pub returns : goal.returns
 returns g c =

@@ -23,11 +23,11 @@ returns-in-Err g c =
     let means = meaning g.B.Book.means g.W.Wire.lines in
     let m = model g.B.Book.means in
     let s = c.args.at in
-    let x = c.index-mut.result.now in
-    let here = at_roll m (vec_items v.stations) s x (omega arith) c.index-mut.ensures.value in
+    let x = c.index_mut.result.now in
+    let here = at_roll m (vec_items v.stations) s x (omega arith) c.index_mut.ensures.value in
     let told = c.in-Err.ensures in
     let e = note_is R (means v) s (m x) here c.args.note ∙ answers_err (means v) s (means v).lines (note_call c.args.note (m x)) c.in-Err.refusal (sym told.value) in
-    let z = same_ring v _ v.wire _ _ (unwritten v.stations s x c.note.new.self c.index-mut.ensures.value told.same) refl in
+    let z = same_ring v _ v.wire _ _ (unwritten v.stations s x c.note.new.self c.index_mut.ensures.value told.same) refl in
     record { value = sym (ap (λ a. a.0) e); after = ap means z ∙ sym (ap (λ a. a.1) e); rule = refl; same = z }
 
 pub returns : goal.returns
@@ -37,8 +37,8 @@ returns g c =
     let means = meaning g.B.Book.means g.W.Wire.lines in
     let m = model g.B.Book.means in
     let s = c.args.at in
-    let x = c.index-mut.result.now in
-    let here = at_roll m (vec_items v.stations) s x (omega arith) c.index-mut.ensures.value in
+    let x = c.index_mut.result.now in
+    let here = at_roll m (vec_items v.stations) s x (omega arith) c.index_mut.ensures.value in
     let told = c.in_default.ensures in
     let e = note_is R (means v) s (m x) here c.args.note ∙ answers_ok (means v) s (means v).lines (note_call c.args.note (m x)) (sym told.value) in
     record {

@@ -28,17 +28,17 @@ returns-in-Err g c =
     let m = model g.B.Book.means in
     let o = (v.turn - 1) % c.roll.result in
     let own : o ≡ owner R (means v) = ap (λ n. (v.turn - 1) % n) c.roll.ensures in
-    let x = c.index-mut.result.now in
-    let here = subst (λ k. slice_get (means v).stations k ≡ Some (m x)) own (at_roll m (vec_items v.stations) o x (omega arith) c.index-mut.ensures.value) in
+    let x = c.index_mut.result.now in
+    let here = subst (λ k. slice_get (means v).stations k ≡ Some (m x)) own (at_roll m (vec_items v.stations) o x (omega arith) c.index_mut.ensures.value) in
     let told = c.in-Err.ensures in
     let e = turn_is R (means v) (m x) here ∙ turned_err (means v) (owner R (means v)) (m x) (turn_station g.B.Book.next (g.R.VotingRule.votes v.rule) v.turn (m x)) c.in-Err.refusal (sym told.value) in
-    let z = same_ring v _ c.turn.new.wire _ _ (unwritten v.stations o x c.turn.new.self c.index-mut.ensures.value told.same.0) told.same.1 in
+    let z = same_ring v _ c.turn.new.wire _ _ (unwritten v.stations o x c.turn.new.self c.index_mut.ensures.value told.same.0) told.same.1 in
     record { value = sym (ap (λ a. a.0) e); after = ap means z ∙ sym (ap (λ a. a.1) e); rule = refl; same = z }
 
 pub overflow_add-self : goal.overflow_add-self
 overflow_add-self g c =
     let v = c.args.self.now in
-    let within = turn_within g.B.Book.next (g.R.VotingRule.votes v.rule) v.turn (model g.B.Book.means c.index-mut.result.now) (sym c.in_default.ensures.value) in
+    let within = turn_within g.B.Book.next (g.R.VotingRule.votes v.rule) v.turn (model g.B.Book.means c.index_mut.result.now) (sym c.in_default.ensures.value) in
     search rules
 
 pub returns : goal.returns
@@ -49,8 +49,8 @@ returns g c =
     let m = model g.B.Book.means in
     let o = (v.turn - 1) % c.roll.result in
     let own : o ≡ owner R (means v) = ap (λ n. (v.turn - 1) % n) c.roll.ensures in
-    let x = c.index-mut.result.now in
-    let here = subst (λ k. slice_get (means v).stations k ≡ Some (m x)) own (at_roll m (vec_items v.stations) o x (omega arith) c.index-mut.ensures.value) in
+    let x = c.index_mut.result.now in
+    let here = subst (λ k. slice_get (means v).stations k ≡ Some (m x)) own (at_roll m (vec_items v.stations) o x (omega arith) c.index_mut.ensures.value) in
     let told = c.in_default.ensures in
     let e = turn_is R (means v) (m x) here ∙ turned_ok (means v) (owner R (means v)) (m x) (turn_station g.B.Book.next (g.R.VotingRule.votes v.rule) v.turn (m x)) (sym told.value) in
     let next : v.turn + 1 ≡ suc v.turn = omega arith in

@@ -6,8 +6,7 @@ use Rattle.ring.proofs.ring.making.recruit.Goals as goal
 
 pub loop-me-init : goal.loop-me-init
 loop-me-init g c =
-    let made = c.in-Ok.ensures.made in
-    (omega arith, omega arith, none_made c.args.roll (g.B.Book.means c.args.book.now) (model g.B.Book.means) (vec_items c.in-Ok.stations) made.0)
+    (c.in-Ok.ensures.len, c.in-Ok.ensures.capacity, none_made c.args.roll (g.B.Book.means c.args.book.now) (model g.B.Book.means) (vec_items c.in-Ok.stations) c.in-Ok.ensures.items)
 
 pub loop-me-preserved : goal.loop-me-preserved
 loop-me-preserved g c =
