@@ -2,10 +2,10 @@
 ghost use Rattle.std.specs.Prelude.{◌≡◌, ◌<◌, true, List, [], length, IfOk, if◌then◌else◌, ◌≢◌, slice_index_or, slice_set};
 ghost use Rattle.books.specs.Places.{place_where, at_place};
 ghost use Rattle.books.specs.Limits.{is_number};
-ghost use Rattle.entries.specs.EntryBook.{entry_verdict_number, lawful_act, has_number, no_entry, entry_of, is_taken, entry_after, act_next, known_verdict, unknown_verdict, entry_verdict, entry_next};
+ghost use Rattle.entries.specs.EntryBook.{entry_verdict_number, lawful_act, has_number, no_entry, entry_of, is_taken, entry_after, act_next, asked_next, entry_act, known_verdict, unknown_verdict, entry_verdict, entry_next};
 ghost use Rattle.entries.specs.EntryState.{entries_of};
 ghost use Rattle.entries.specs.declared.customs_entry.CustomsEntry.{CustomsEntry};
-ghost use Rattle.std.proofs.Common.{rules, arith};
+ghost use Rattle.std.proofs.lemmas.Bool.{cond-false, ne_eqb};
 
 use crate::customs_entry::{CustomsEntry, OfNumber};
 use crate::entry_act::EntryAct;
@@ -103,7 +103,7 @@ impl Book for EntryBook {
 
     ghost verdict = { entry_verdict };
 
-    ghost refused = { first_of (Prim.search rules, Prim.grind (arith, Self.row.coded.inj)) };
+    ghost refused = { λ s x refused. cond-false (is_taken (entry_verdict s x)) (asked_next (entry_act x) x.b s) s (ne_eqb (entry_verdict_number (entry_verdict s x)) 0 refused) };
 
     fn give(&mut self, note: Note) -> EntryVerdict {
         let Some(act) = EntryAct::asked_by(note) else {
@@ -118,7 +118,7 @@ impl Book for EntryBook {
 
 impl StartingBook for EntryBook {
     fn duplicate(&self) -> Result<EntryBook, AllocError> {
-        let mut entries = Vec::with_capacity(self.entries.allocator(), ENTRY_PLACES)?;
+        let mut entries = Vec::with_capacity(*self.entries.allocator(), ENTRY_PLACES)?;
         entries.extend_from_slice(self.entries.as_slice())?;
         Ok(EntryBook { entries })
     }

@@ -17,13 +17,9 @@ invariant_of-self c =
     let s = vec_items c.args.self.now.entries in
     let e = get_or_read s c.args.place c.index.result.now c.requires.within c.index.ensures no_entry in
     let n : c.after.result.number ≡ (get_or s c.args.place no_entry).number =
-    ap (λ (x : CustomsEntry). x.number) c.after.ensures.value ∙ (after_number c.args.act c.index.result.now ∙ ap (λ (x : CustomsEntry). x.number) e) in (
-      search rules,
-      (
-        search rules,
-        (
-          replaced_apart s c.args.place c.after.result c.requires.within n c.args.self.now.apart,
-          (replaced_ranged s c.args.place c.after.result c.requires.within c.args.self.now.ranged c.after.ensures.ranged, tt),
-        ),
-      ),
-    )
+    ap (λ (x : CustomsEntry). x.number) c.after.ensures.value ∙ (after_number c.args.act c.index.result.now ∙ ap (λ (x : CustomsEntry). x.number) e) in record {
+      room = search rules;
+      bounded = search rules;
+      apart = replaced_apart s c.args.place c.after.result c.requires.within n c.args.self.now.apart;
+      ranged = replaced_ranged s c.args.place c.after.result c.requires.within c.args.self.now.ranged c.after.ensures.ranged;
+    }

@@ -11,13 +11,9 @@ invariant_of-self c =
     let s = vec_items c.args.self.now.entries in
     let e = opened c.args.number c.in-Open.price c.in-Open.rate in
     let items = sym c.push_reserved.ensures.items in
-    let ok : in_range e ≡ true = opened_in_range c.args.number c.in-Open.price c.in-Open.rate c.requires.numbered (ap lawful_act (sym c.in-Open.is) ∙ c.requires.lawful) in (
-      search rules,
-      (
-        search rules,
-        (
-          subst (λ (t : List CustomsEntry). Apart (numbers t)) items (opened_apart s e c.requires.unknown c.args.self.now.apart),
-          (subst InRange items (opened_ranged s e c.args.self.now.ranged ok), tt),
-        ),
-      ),
-    )
+    let ok : in_range e ≡ true = opened_in_range c.args.number c.in-Open.price c.in-Open.rate c.requires.numbered (ap lawful_act (sym c.in-Open.is) ∙ c.requires.lawful) in record {
+      room = search rules;
+      bounded = search rules;
+      apart = subst (λ (t : List CustomsEntry). Apart (numbers t)) items (opened_apart s e c.requires.unknown c.args.self.now.apart);
+      ranged = subst InRange items (opened_ranged s e c.args.self.now.ranged ok);
+    }

@@ -7,13 +7,9 @@ use Rattle.entries.proofs.entry_book.calls.EntryBookStartingBook.duplicate.Goals
 
 pub invariant_of-result : goal.invariant_of-result
 invariant_of-result c =
-    let same : vec_items c.args.self.now.entries ≡ vec_items c.extend_from_slice.new.self = search rules in (
-      search rules,
-      (
-        search rules,
-        (
-          subst (λ (t : List CustomsEntry). Apart (numbers t)) same c.args.self.now.apart,
-          (subst InRange same c.args.self.now.ranged, tt),
-        ),
-      ),
-    )
+    let same : vec_items c.args.self.now.entries ≡ vec_items c.extend_from_slice.new.self = search rules in record {
+      room = search rules;
+      bounded = search rules;
+      apart = subst (λ (t : List CustomsEntry). Apart (numbers t)) same c.args.self.now.apart;
+      ranged = subst InRange same c.args.self.now.ranged;
+    }
