@@ -1,5 +1,5 @@
 -- The claim book: what a note asks, which verdict it gets and what the book holds then. Assumes nothing.
-use Rattle.std.specs.Prelude.{◌≡◌, ℕ, ◌<◌, Bool, true, false, cond, ◌&&◌, List, replicate, is_some, Some, None, Option, ◌==◌, ◌≢◌, nat_lt, slice_index_or, slice_set}
+use Rattle.std.specs.Prelude.{ℕ, ◌<◌, Bool, true, false, cond, ◌&&◌, List, replicate, is_some, Some, None, Option, ◌==◌, ◌≢◌, nat_lt, slice_index_or, slice_set}
 use Rattle.std.specs.Option.{option_flatten}
 use Rattle.protocol.specs.Limits.{max_stations}
 use Rattle.protocol.specs.declared.note.Note.{Note}

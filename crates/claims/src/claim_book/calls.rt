@@ -1,8 +1,8 @@
 // What can be done with a claim book.
 ghost use Rattle.std.specs.Prelude.{◌≡◌, IfOk, if◌then◌else◌, ◌≢◌};
-ghost use Rattle.claims.specs.ClaimBook.{Places, empty_places, claim_count, claim_at, claim_of, claim_verdict_number, is_taken, making_verdict, releasing_verdict, made as claimed, released, claim_verdict, claim_next};
+ghost use Rattle.claims.specs.ClaimBook.{Places, empty_places, claim_count, claim_at, claim_of, claim_verdict_number, is_taken, making_verdict, releasing_verdict, made as claimed, released, claim_act, claim_verdict, act_next, claim_next};
 ghost use Rattle.claims.specs.ClaimState.{places_of};
-ghost use Rattle.std.proofs.Common.{rules, arith};
+ghost use Rattle.std.proofs.lemmas.Bool.{cond-false, ne_eqb};
 
 use crate::claim::{Claim, ClaimAct, IsClaimed, IsFree, OfClaim, OfFile};
 use crate::claim_book::ClaimBook;
@@ -87,7 +87,7 @@ impl Book for ClaimBook {
 
     ghost verdict = { claim_verdict };
 
-    ghost refused = { first_of (Prim.search rules, Prim.grind (arith, Self.row.coded.inj)) };
+    ghost refused = { λ s x refused. cond-false (is_taken (claim_verdict s x)) (act_next (claim_act x) s) s (ne_eqb (claim_verdict_number (claim_verdict s x)) 0 refused) };
 
     fn give(&mut self, note: Note) -> ClaimVerdict {
         match ClaimAct::asked_by(note) {
@@ -100,7 +100,7 @@ impl Book for ClaimBook {
 
 impl StartingBook for ClaimBook {
     fn duplicate(&self) -> Result<ClaimBook, AllocError> {
-        let places = Vec::from_slice(self.places.allocator(), self.places.as_slice())?;
+        let places = Vec::from_slice(*self.places.allocator(), self.places.as_slice())?;
         Ok(ClaimBook { places })
     }
 }

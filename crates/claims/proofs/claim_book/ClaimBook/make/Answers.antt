@@ -12,7 +12,7 @@ invariant_of-self c =
     let m = c.args.claim in
     let none = unseen (holds_file m.file) s c.as_slice.result.now c.first_place.result c.is_some.result c.as_slice.ensures.value c.first_place.ensures.cases c.is_some.ensures c.if-is_some.false in
     let at = seen is_free s c.as_slice-2.result.now c.in-Some.place c.as_slice-2.ensures.value c.in-Some.ensures.cases in
-    (search rules, (made_once s m none c.in-Some.place at.1 c.args.self.now.once, tt))
+    record { full = search rules; once = made_once s m none c.in-Some.place at.1 c.args.self.now.once }
 
 pub returns-in_default : goal.returns-in_default
 returns-in_default c =

@@ -8,4 +8,4 @@ use Rattle.claims.proofs.claim_book.ClaimBook.new.Goals as goal
 pub invariant_of-result : goal.invariant_of-result
 invariant_of-result c =
     let same : empty_places ≡ vec_items c.in_ok-places.places = search rules in
-    (search rules, (subst ClaimedOnce same (free_once claim_places), tt))
+    record { full = search rules; once = subst ClaimedOnce same (free_once claim_places) }
