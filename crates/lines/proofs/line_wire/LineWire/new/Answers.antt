@@ -14,7 +14,7 @@ overflow_cast-result g c =
 pub invariant_of-result : goal.invariant_of-result
 invariant_of-result g c =
     let made = lines_made c.args.roll c.len.result (sym c.lines_refused.ensures ∙ c.in_default.is) in
-    (made.0, (made.1, (omega (arith, made.2, c.len.ensures), tt)))
+    record { some = made.0; few = made.1; fits = omega (arith, made.2, c.len.ensures) }
 
 pub returns : goal.returns
 returns g c = (
