@@ -1,5 +1,5 @@
 // The places of a pool that are in use: searched for one station, and freed.
-ghost use Rattle.std.specs.Prelude.{◌≡◌, ◌+◌, ◌<◌, not, ◌&&◌, [], length, vec_len, vec_capacity, MatchOption, ◌==◌, nat_lt};
+ghost use Rattle.std.specs.Prelude.{◌≡◌, ℕ, ◌+◌, ◌<◌, ◌≤◌, not, ◌&&◌, [], length, vec_len, vec_capacity, MatchOption, ◌==◌, nat_lt, slice_index_or};
 ghost use Rattle.std.specs.List.{remove};
 ghost use Rattle.protocol.specs.Limits.{line_places};
 ghost use Rattle.pool.specs.Pool.{line_of, First};
@@ -44,7 +44,10 @@ pub fn is_open(station: u8, sender: u8, waiting: usize) -> bool
 pub fn free_place<T: Copy>(pool: &mut Vec<Place<T>>, at: usize)
     requires { at < vec_len pool.old }
     ensures items { pool.new.items ≡ remove pool.old.items at }
+    ensures len { vec_len pool.new + 1 ≡ vec_len pool.old }
     ensures capacity { vec_capacity pool.new ≡ vec_capacity pool.old }
+    ensures before { (k : ℕ) (d : Place T) → k < at → slice_index_or pool.new.items k d ≡ slice_index_or pool.old.items k d }
+    ensures behind { (k : ℕ) (d : Place T) → at ≤ k → slice_index_or pool.new.items k d ≡ slice_index_or pool.old.items (k + 1) d }
 {
     pool.remove(at);
 }

@@ -17,16 +17,15 @@ invariant_of-result g c =
     let made = pool_made c.args.roll c.len.result (sym c.pool_refused.ensures ∙ c.in_default.is) in
     let ps : List (Place g.row.T.Denot) = vec_items c.clear.new.self in
     let none : length ps ≡ 0 = ap length c.clear.ensures.items in
-    let short : (s : ℕ) → length (line_of s ps) ≤ line_places = λ s. omega (arith, ap (λ (qs : List (Place g.row.T.Denot)). length (line_of s qs)) c.clear.ensures.items) in (
-      made.0,
-      (
-        made.1,
-        (
-          omega (arith, made.2, c.len.ensures, c.clear.ensures.capacity, c.args.places.ok),
-          (λ k d h. absurd (omega (arith, none)), (λ k d h. absurd (omega (arith, none)), (short, tt))),
-        ),
-      ),
-    )
+    let short : (s : ℕ) → length (line_of s ps) ≤ line_places = λ s. omega (arith, ap (λ (qs : List (Place g.row.T.Denot)). length (line_of s qs)) c.clear.ensures.items) in
+    record {
+      some = made.0;
+      few = made.1;
+      room = omega (arith, made.2, c.len.ensures, c.clear.ensures.capacity, c.args.places.ok);
+      busy = λ k d h. absurd (omega (arith, none));
+      listed = λ k d h. absurd (omega (arith, none));
+      short = short;
+    }
 
 pub returns : goal.returns
 returns g c = (

@@ -23,22 +23,15 @@ invariant_of-self g c =
     let w = c.args.self.now in
     let v = c.push_reserved.new.self in
     let some : 0 < c.receivers-waits.result = omega arith in
-    let place : Place g.row.T.Denot = record { frame = c.args.frame; waits = c.receivers-waits.result } in (
-      w.some,
-      (
-        w.few,
-        (
-          omega (arith, w.room, c.push_reserved.ensures.capacity),
-          (
-            every_push (λ p. 0 < p.waits) w.pool.items v.items w.busy place some c.push_reserved.ensures.items,
-            (
-              every_push (λ p. p.waits < 2 ^ w.roll) w.pool.items v.items w.listed place c.receivers-waits.ensures.bound c.push_reserved.ensures.items,
-              (posted_short w.roll c.args.sender w.pool.items c.args.frame c.receivers-waits.result c.receivers-waits.ensures.each v.items c.push_reserved.ensures.items w.short, tt),
-            ),
-          ),
-        ),
-      ),
-    )
+    let place : Place g.row.T.Denot = record { frame = c.args.frame; waits = c.receivers-waits.result } in
+    record {
+      some = w.some;
+      few = w.few;
+      room = omega (arith, w.room, c.push_reserved.ensures.capacity);
+      busy = every_push (λ p. 0 < p.waits) w.pool.items v.items w.busy place some c.push_reserved.ensures.items;
+      listed = every_push (λ p. p.waits < 2 ^ w.roll) w.pool.items v.items w.listed place c.receivers-waits.ensures.bound c.push_reserved.ensures.items;
+      short = posted_short w.roll c.args.sender w.pool.items c.args.frame c.receivers-waits.result c.receivers-waits.ensures.each v.items c.push_reserved.ensures.items w.short;
+    }
 
 pub returns-then-waits-ne0 : goal.returns-then-waits-ne0
 returns-then-waits-ne0 g c =
