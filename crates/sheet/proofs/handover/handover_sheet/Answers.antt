@@ -1,4 +1,4 @@
-use Rattle.std.proofs.Common.{◌≡◌, ◌++◌, drop, vec_items, sym, ap, ◌∙◌, arith}
+use Rattle.std.proofs.Common.{◌++◌, drop, vec_items, sym, ap, ◌∙◌, arith}
 use Rattle.sheet.specs.Sheet.{sheet, sheet_part}
 use Rattle.sheet.proofs.Sheets.{empty_place, sheet_none, sheet_more}
 use Rattle.sheet.proofs.handover.handover_sheet.Goals as goal
