@@ -1,5 +1,5 @@
 -- Where a thing stands in a list, for elements of any type. Assumes nothing.
-use Rattle.std.specs.Prelude.{◌≡◌, ℕ, zero, suc, ◌-◌, ◌<◌, Bool, cond, List, [], ◌∷◌, length, Some, None, Option, ◌≢◌, nat_le, nat_lt, slice_index}
+use Rattle.std.specs.Prelude.{ℕ, zero, suc, ◌-◌, ◌<◌, Bool, cond, List, [], ◌∷◌, length, Some, None, Option, ◌≢◌, nat_le, nat_lt, slice_index}
 use Rattle.std.specs.List.{slice_get}
 
 -- how many elements stand before the first that passes the test: the length if none does

@@ -1,5 +1,5 @@
 -- What a station keeps of each other station: a heard mark, a known place and perhaps a wish. Assumes nothing.
-use Rattle.std.specs.Prelude.{ℕ, ◌+◌, min, max, true, false, cond, not, ◌&&◌, List, [], ◌∷◌, map, set, replicate, Some, None, ◌==◌, slice_index_or, slice_set}
+use Rattle.std.specs.Prelude.{ℕ, ◌+◌, min, max, true, false, cond, not, ◌&&◌, List, [], ◌∷◌, map, replicate, Some, None, ◌==◌, slice_index_or, slice_set}
 use Rattle.protocol.specs.Limits.{max_stations}
 use Rattle.vote.specs.Mask.{has}
 use Rattle.journal.specs.declared.peer.Peer.{Peer}

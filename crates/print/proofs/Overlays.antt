@@ -1,12 +1,12 @@
 -- Bytes written over a buffer, one part after another.
-use Rattle.std.proofs.Common.{◌≡◌, ℕ, zero, suc, ◌+◌, ◌-◌, ◌/◌, ◌%◌, ◌^◌, ◌<◌, ◌≤◌, cond, List, [], ◌∷◌, ◌++◌, length, get_or, take, drop, set, is_ok, Ok, Err, decimal, Result, sym, refl, ap, ◌∙◌, subst, append_assoc, append-nil, add-zero, add-suc, arith, length-append, length-set, drop-cons}
+use Rattle.std.proofs.Common.{◌≡◌, ℕ, suc, ◌+◌, ◌-◌, ◌/◌, ◌%◌, ◌^◌, ◌<◌, ◌≤◌, cond, List, [], ◌∷◌, ◌++◌, length, get_or, take, drop, set, is_ok, Ok, Err, decimal, Result, sym, refl, ap, ◌∙◌, append_assoc, append-nil, add-zero, arith, length-append, length-set}
 use Rattle.std.specs.declared.alloc.AllocError.{AllocError}
 use Rattle.std.proofs.lemmas.Fmt.{decimal_digit, decimal_step, length-decimal-le}
 use Rattle.std.proofs.lemmas.List.{at_drop_more, at_drop_all, take_more, take_all, take_at}
 use Rattle.print.specs.Overlay.{overlay}
 use Rattle.print.specs.Pieces.{piece_bytes, spelled, Grown}
 use Rattle.print.specs.declared.piece.Piece.{Piece}
-use Rattle.print.specs.declared.piece.Piece.TheVariants.{Text, Number}
+use Rattle.print.specs.declared.piece.Piece.TheVariants.{Text}
 
 pub overlay_append : (at : ℕ) (xs ys buffer : List ℕ) → overlay at (xs ++ ys) buffer ≡ overlay (at + length xs) ys (overlay at xs buffer)
 overlay_append at [] ys buffer = ap (λ (k : ℕ). overlay k ys buffer) (sym (add-zero at))

@@ -15,7 +15,7 @@ use Rattle.runs.specs.declared.call.Call.{Call}
 use Rattle.runs.specs.Rings.{Ring, run, answers, new_ring}
 use Rattle.ring.specs.Questions.{of_station}
 use Rattle.asking.specs.Parts.{length_of}
-use Rattle.replay.specs.Print.{Stationed, ended, answer_text, calls_among, answers_text, head_text, journal_text, book_text, station_text, stations_text, by_heads, performed_text, Extended}
+use Rattle.replay.specs.Print.{Stationed, ended, answer_text, calls_among, answers_text, journal_text, book_text, station_text, stations_text, by_heads, performed_text, Extended}
 use Rattle.replay.specs.Parts.{head_of, journal_of, book_of, if_any, entry_part, item_part}
 
 -- a text that grows by the front p of what is left

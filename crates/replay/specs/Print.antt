@@ -10,7 +10,7 @@ use Rattle.entries.specs.EntryBook.{entry_next}
 use Rattle.entries.specs.declared.customs_entry.CustomsEntry.{CustomsEntry}
 use Rattle.station.specs.Model.{Model}
 use Rattle.runs.specs.declared.call.Call.{Call}
-use Rattle.runs.specs.Rings.{Rules, Ring, run, answers, new_ring}
+use Rattle.runs.specs.Rings.{Rules, run, answers, new_ring}
 use Rattle.script.specs.Script.{script_of}
 use Rattle.print.specs.PrintLines.{refused_line, station_line, entry_line, book_line}
 

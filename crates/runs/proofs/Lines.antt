@@ -13,7 +13,7 @@ use Rattle.wires.specs.Lines.{Lines}
 use Rattle.wires.specs.Calls.{offering, changed, offered_below, posted, taken, posted_all}
 use Rattle.journal.specs.Journal.{last_turn, end_of, is_start}
 use Rattle.journal.specs.Core.{other}
-use Rattle.taking.specs.Lawful.{in_range, end_in_range, body_lawful, lawful}
+use Rattle.taking.specs.Lawful.{in_range, end_in_range, body_lawful}
 use Rattle.turning.specs.Posts.{frames_of}
 use Rattle.runs.proofs.Ends.{last_from, last_of, same_last}
 use Rattle.runs.proofs.Formed.{Formed, SoundBody, last_append, formed_last}

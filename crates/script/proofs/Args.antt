@@ -1,6 +1,5 @@
 -- Numbers under a key, and what follows them.
-use Rattle.std.proofs.Common.{◌≡◌, ℕ, zero, suc, ◌+◌, ◌-◌, ◌^◌, ◌<◌, ◌≤◌, Bool, true, false, List, [], ◌∷◌, ◌++◌, length, get_or, drop, Some, None, codes, decimal, Option, sym, refl, ap, ◌∙◌, subst, arith, Bor, rules}
-use Rattle.std.specs.Str.Parse.{AllDigits}
+use Rattle.std.proofs.Common.{◌≡◌, ℕ, ◌^◌, ◌<◌, Bool, true, false, List, [], ◌∷◌, ◌++◌, drop, Some, None, codes, decimal, Option, sym, refl, ◌∙◌, subst, arith, Bor, rules}
 use Rattle.std.proofs.lemmas.Str.Parse.{digit_at}
 use Rattle.script.specs.Words.{Free, tail_at, IsField}
 use Rattle.script.specs.declared.words.Word.{Word}

@@ -1,9 +1,9 @@
 -- a line writes at most one command
-use Rattle.std.proofs.Common.{◌≡◌, ℕ, ◌^◌, ◌<◌, List, [], ◌∷◌, ◌++◌, codes, decimal, sym, refl, ap, ◌∙◌, subst, append-nil, arith, rules}
+use Rattle.std.proofs.Common.{◌≡◌, ℕ, List, [], ◌∷◌, ◌++◌, codes, decimal, sym, refl, ap, ◌∙◌, append-nil, arith, rules}
 use Rattle.protocol.specs.declared.note.Note.{Note as NoteT}
 use Rattle.script.specs.Words.{Free}
 use Rattle.script.specs.Commands.{written, written_call, Sized, SizedCall}
-use Rattle.script.specs.Parts.{numbered, spelled, verb_of, call_arguments, key_of, value_of, arguments_of, Asks, Does, Follows}
+use Rattle.script.specs.Parts.{spelled, verb_of, call_arguments, key_of, value_of, arguments_of, Asks, Does, Follows}
 use Rattle.runs.specs.declared.call.Call.{Call}
 use Rattle.runs.specs.declared.call.Call.TheVariants.{Note, Turn, Take, Lose, Stop, Enter}
 use Rattle.script.specs.declared.command.Command.{Command}

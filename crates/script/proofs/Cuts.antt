@@ -1,5 +1,5 @@
 -- a list cut at a byte
-use Rattle.std.proofs.Common.{◌≡◌, ℕ, zero, suc, ◌+◌, ◌-◌, ◌<◌, ◌≤◌, min, List, [], ◌∷◌, ◌++◌, length, get_or, take, drop, Some, None, Option, sym, refl, ap, ◌∙◌, subst, append-nil, add-one, arith, length-drop, take-append-drop, length-take, drop-cons, get_or-take, drop-drop}
+use Rattle.std.proofs.Common.{◌≡◌, ℕ, suc, ◌+◌, ◌-◌, ◌<◌, ◌≤◌, List, [], ◌∷◌, ◌++◌, length, get_or, take, drop, Some, None, Option, sym, refl, ap, ◌∙◌, subst, append-nil, add-one, arith, length-drop, take-append-drop, length-take, drop-cons, get_or-take, drop-drop}
 use lib.Seq.{drop-append-add}
 use Rattle.std.proofs.lemmas.List.{take_rest}
 use Rattle.script.specs.Words.{Free, tail_at}

@@ -1,5 +1,5 @@
 -- The reading of a line is the one command that is written so.
-use Rattle.std.proofs.Common.{◌≡◌, ℕ, zero, suc, ◌+◌, ◌-◌, ◌*◌, ◌^◌, ◌<◌, ◌≤◌, Bool, true, false, cond, ◌&&◌, ltb, leb, ◌⊎◌, List, [], ◌∷◌, ◌++◌, length, get_or, Some, None, Ok, Err, codes, decimal, Decides, Option, Result, sym, refl, ap, ◌∙◌, subst, inl, inr, append-nil, arith, rules}
+use Rattle.std.proofs.Common.{◌≡◌, ℕ, ◌+◌, ◌-◌, ◌*◌, ◌^◌, ◌<◌, true, ◌&&◌, ◌⊎◌, List, [], ◌∷◌, ◌++◌, length, Some, None, Ok, Err, decimal, Decides, Result, sym, refl, ap, ◌∙◌, subst, inl, inr, append-nil, arith, rules}
 use Rattle.std.specs.Str.Parse.{AllDigits}
 use Rattle.std.specs.Int.{IsInRange}
 use Rattle.std.specs.Str.{bytes_eq}
@@ -11,7 +11,7 @@ use Rattle.std.proofs.lemmas.Bool.Decides.{nat_tests, Decides-and, not_from_Deci
 use Rattle.protocol.specs.declared.refusal.Refusal.{Refusal}
 use Rattle.protocol.specs.declared.refusal.Refusal.TheVariants.{MisshapenLine}
 use Rattle.script.specs.Commands.{written, Sized, SizedCall}
-use Rattle.script.specs.Reading.{Reads, digit, numbers, forms, is_u32, sized_call, sized, first_written, reading}
+use Rattle.script.specs.Reading.{digit, numbers, forms, is_u32, sized_call, sized, first_written, reading}
 use Rattle.runs.specs.declared.call.Call.{Call}
 use Rattle.runs.specs.declared.call.Call.TheVariants.{Note, Turn, Take, Lose, Stop, Enter}
 use Rattle.script.specs.declared.command.Command.{Command}

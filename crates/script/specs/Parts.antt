@@ -1,5 +1,5 @@
 -- A written command in three parts: its first key, that key's value, and the arguments after them. Assumes nothing.
-use Rattle.std.specs.Prelude.{◌≡◌, ℕ, ◌^◌, ◌<◌, List, [], ◌∷◌, ◌++◌, codes, decimal}
+use Rattle.std.specs.Prelude.{◌≡◌, ℕ, List, [], ◌∷◌, ◌++◌, codes, decimal}
 use Rattle.protocol.specs.declared.note.Note.{Note}
 use Rattle.runs.specs.declared.call.Call.{Call}
 use Rattle.runs.specs.declared.call.Call.TheVariants.{Note as NoteCall, Turn, Take, Lose, Stop, Enter}

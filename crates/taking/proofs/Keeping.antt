@@ -1,5 +1,5 @@
 -- What acting on a frame keeps: the firm count, and the length of the journal but for growing. Assumes nothing.
-use Rattle.std.proofs.Common.{◌≡◌, ℕ, ◌-◌, ◌≤◌, Bool, true, false, cond, ◌&&◌, eqb, ltb, length, refl, arith}
+use Rattle.std.proofs.Common.{◌≡◌, ℕ, ◌≤◌, Bool, true, false, cond, ◌&&◌, eqb, ltb, length, refl, arith}
 use Rattle.std.proofs.lemmas.List.{length_push}
 use Rattle.protocol.specs.declared.entry.Body.{Body}
 use Rattle.protocol.specs.declared.entry.Body.TheVariants as body

@@ -1,5 +1,5 @@
 -- Frames posted one by one. Assumes nothing.
-use Rattle.std.proofs.Common.{◌≡◌, ℕ, ◌+◌, List, [], ◌∷◌, ◌++◌, sym, refl, ap, ◌∙◌, subst}
+use Rattle.std.proofs.Common.{◌≡◌, ℕ, List, [], ◌∷◌, ◌++◌, sym, refl, ap, ◌∙◌, subst}
 use Rattle.protocol.specs.declared.frame.Frame.TheVariants as frame
 use Rattle.journal.specs.Core.{Core}
 use Rattle.journal.specs.Journal.{last_turn}

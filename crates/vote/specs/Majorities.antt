@@ -1,10 +1,10 @@
 -- The three laws of a majority by weight, for any weights. Assumes nothing.
-use Rattle.std.specs.Prelude.{◌≡◌, ℕ, zero, suc, ◌+◌, ◌-◌, ◌*◌, ◌/◌, ◌%◌, ◌^◌, ◌<◌, ◌≤◌, true, false, ◌&&◌, ◌⊎◌, List, [], ◌∷◌, length, take, drop, nat_lt, slice_index, refl}
+use Rattle.std.specs.Prelude.{◌≡◌, ℕ, zero, suc, ◌+◌, ◌*◌, ◌/◌, ◌%◌, ◌^◌, ◌<◌, ◌≤◌, true, false, ◌&&◌, ◌⊎◌, List, [], ◌∷◌, length, take, drop, nat_lt, slice_index, refl}
 use Rattle.std.proofs.Common.{sym, ap, ◌∙◌, inl, inr, arith, zero-mul, one-mul}
 use Rattle.std.specs.Int.Count.{ones, ones_step}
 use Rattle.std.proofs.lemmas.List.{at_drop_more, at_drop_all, length-replicate, length-take-le}
 use Rattle.std.proofs.lemmas.Bool.{ltb-true, lt-ltb, and_parts, le-ltb, and_from, and_left, eq-eqb, eqb-true}
-use Rattle.vote.specs.Mask.{has, everyone, Within, Share}
+use Rattle.vote.specs.Mask.{everyone, Within, Share}
 use Rattle.vote.specs.Majority.{total, weight, majority, heads}
 use Rattle.vote.specs.Masks.{has_zero, has_suc, half_below, everyone_below, everyone_odd, everyone_half}
 

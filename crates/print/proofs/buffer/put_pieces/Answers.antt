@@ -1,5 +1,5 @@
 -- Piece by piece.
-use Rattle.std.proofs.Common.{length, drop, sym, ap, ◌∙◌, arith}
+use Rattle.std.proofs.Common.{length, sym, ap, ◌∙◌, arith}
 use Rattle.print.specs.Overlay.{overlay}
 use Rattle.print.proofs.Overlays.{one_more, length_one_more, none_left, part_more}
 use Rattle.print.proofs.buffer.put_pieces.Goals as goal

@@ -1,5 +1,5 @@
 -- Piece by piece.
-use Rattle.std.proofs.Common.{◌∙◌, arith}
+use Rattle.std.proofs.Common.{◌∙◌}
 use Rattle.print.proofs.Overlays.{piece_added, still_before, all_or_before}
 use Rattle.print.proofs.text.add_pieces.Goals as goal
 

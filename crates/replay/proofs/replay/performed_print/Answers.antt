@@ -1,5 +1,5 @@
 -- What each part gives makes the print.
-use Rattle.std.proofs.Common.{◌≡◌, vec_items, ap, ◌∙◌}
+use Rattle.std.proofs.Common.{vec_items, ap, ◌∙◌}
 use Rattle.vote.specs.declared.heads.Heads.{Heads}
 use Rattle.entries.specs.EntryState.{entries_of}
 use Rattle.lines.specs.LineWire.{line_lines}

@@ -3,7 +3,7 @@ use Rattle.std.proofs.Common.{arith}
 use Rattle.entries.specs.EntryState.{entries_of}
 use Rattle.lines.specs.LineWire.{line_lines}
 use Rattle.ring.specs.Meaning.{meaning}
-use Rattle.replay.proofs.Texts.{grow, all_grown, station_more, stations_end}
+use Rattle.replay.proofs.Texts.{grow, station_more}
 use Rattle.replay.proofs.stations.append_stations.Goals as goal
 
 pub loop-at-preserved : goal.loop-at-preserved

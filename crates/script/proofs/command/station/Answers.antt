@@ -1,5 +1,5 @@
 -- A station with more after it is refused.
-use Rattle.std.proofs.Common.{codes, refl}
+use Rattle.std.proofs.Common.{codes}
 use Rattle.script.proofs.Args.{next, not_last, free_at}
 use Rattle.script.proofs.command.station.Goals as goal
 

@@ -1,5 +1,5 @@
 -- Digits without a plus and without leading zeros are a decimal.
-use Rattle.std.proofs.Common.{◌≡◌, sym, ◌∙◌, arith}
+use Rattle.std.proofs.Common.{arith}
 use Rattle.script.proofs.Decimal.{not_empty, first_digit, lone_zero, parsed, unparsed, text_of}
 use Rattle.script.proofs.number.number.Goals as goal
 use Rattle.script.proofs.number.number.Goals.{then-digits-eq0-via-then-digits-eq0, then-digits-eq0-via-else-digits-eq0+then-digits-eq43}

@@ -3,7 +3,7 @@ use Rattle.journal.specs.Core.{Core, core_of}
 use Rattle.journal.specs.Settle.{fed, newly_firm}
 use Rattle.protocol.specs.declared.note.Note.{Note}
 use Rattle.protocol.specs.declared.refusal.Refusal.{Refusal}
-use Rattle.turning.specs.Calls.{token, waiting}
+use Rattle.turning.specs.Calls.{waiting}
 use Rattle.turning.specs.Posts.{Posting}
 use Rattle.turning.proofs.Posting.{by_rule}
 use Rattle.turning.proofs.Keeping.{keeps_call}

@@ -1,6 +1,6 @@
 use Rattle.std.proofs.Common.{◌≡◌, ◌≤◌, length}
 use Rattle.journal.specs.Core.{core_of}
-use Rattle.turning.specs.Calls.{token, waiting}
+use Rattle.turning.specs.Calls.{waiting}
 use Rattle.station.proofs.Sayings.{ends}
 use Rattle.station.proofs.turn.turn.Given as goal
 

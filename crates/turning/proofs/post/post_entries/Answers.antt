@@ -1,6 +1,6 @@
 use Rattle.std.proofs.Common.{sym, ◌∙◌}
 use Rattle.std.proofs.lemmas.List.{at_drop_more, at_drop_all}
-use Rattle.turning.specs.Posts.{after, frames_of}
+use Rattle.turning.specs.Posts.{frames_of}
 use Rattle.wires.specs.Calls.{posted_all}
 use Rattle.turning.proofs.Posting.{entries_more, entries_none}
 use Rattle.turning.proofs.post.post_entries.Goals as goal

@@ -1,7 +1,7 @@
 use Rattle.std.proofs.Common.{List, [], ◌∷◌, ◌++◌, ap, ◌∙◌}
 use Rattle.journal.specs.Core.{core_of}
 use Rattle.protocol.specs.declared.entry.Entry.{Entry}
-use Rattle.turning.specs.Posts.{after, next_entry}
+use Rattle.turning.specs.Posts.{next_entry}
 use Rattle.turning.proofs.Posting.{said_lines}
 use Rattle.turning.proofs.post.say_body.Goals as goal
 

@@ -3,7 +3,6 @@ use Rattle.protocol.specs.Limits.{journal_places}
 use Rattle.journal.specs.Core.{core_of}
 use Rattle.journal.specs.Settle.{view}
 use Rattle.protocol.specs.declared.entry.Entry.{Entry}
-use Rattle.turning.specs.Posts.{say_body}
 use Rattle.turning.proofs.Posting.{unsaid, by_rule}
 use Rattle.turning.proofs.PuttingOff.{all_heard, outvoted, is_full, put_off_view}
 use Rattle.turning.proofs.put_off.put_off.Goals as goal

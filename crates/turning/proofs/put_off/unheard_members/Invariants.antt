@@ -1,6 +1,5 @@
 -- what is left, added to what is found, is all
 use Rattle.std.proofs.Common.{◌≡◌, ◌-◌, ◌<◌, ◌≤◌}
-use Rattle.journal.specs.Settle.{view}
 use Rattle.turning.proofs.Rounds.{back}
 use Rattle.turning.proofs.put_off.unheard_members.Given as goal
 

@@ -1,9 +1,7 @@
 use Rattle.std.proofs.Common.{List, length, refl, ap, ◌∙◌}
 use Rattle.journal.specs.Core.{core_of}
-use Rattle.journal.specs.Journal.{turn_at}
 use Rattle.journal.specs.Settle.{view}
 use Rattle.protocol.specs.declared.entry.Entry.{Entry}
-use Rattle.turning.specs.Posts.{say_body}
 use Rattle.turning.specs.Steps.{lets_in}
 use Rattle.turning.proofs.Posting.{unsaid, by_rule}
 use Rattle.turning.proofs.Serving.{after_frames, again_lines, serve_in, serve_only}

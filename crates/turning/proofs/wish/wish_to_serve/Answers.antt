@@ -1,4 +1,4 @@
-use Rattle.std.proofs.Common.{◌-◌, sym, ◌∙◌, arith}
+use Rattle.std.proofs.Common.{sym, ◌∙◌, arith}
 use Rattle.std.proofs.lemmas.Bool.{eq-eqb, ne_eqb}
 use Rattle.journal.specs.Core.{core_of}
 use Rattle.turning.proofs.Wishes.{look_none, look_past, look_other, look_found, on_past, on_met, on_none, chosen_none, chosen_look}

@@ -1,7 +1,6 @@
 -- what is left has the wish to serve
 use Rattle.std.proofs.Common.{◌≡◌, ◌-◌, ◌<◌}
 use Rattle.journal.specs.Core.{core_of}
-use Rattle.journal.specs.Settle.{view}
 use Rattle.turning.proofs.Wishes.{on, look}
 use Rattle.turning.proofs.wish.wish_to_serve.Given as goal
 

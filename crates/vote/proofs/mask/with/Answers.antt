@@ -1,4 +1,4 @@
-use Rattle.std.proofs.Common.{◌^◌, ltb, sym, ap, ◌∙◌, arith}
+use Rattle.std.proofs.Common.{ltb, sym, ap, ◌∙◌, arith}
 use lib.Bits.{bit_or}
 use Rattle.std.proofs.lemmas.Nat.{one_shl}
 use Rattle.std.proofs.lemmas.Bool.{lt-ltb, le-ltb, cond-true, cond-false}

@@ -1,5 +1,4 @@
-use Rattle.std.proofs.Common.{◌≡◌, vec_items, sym, ap, ◌∙◌, arith}
-use Rattle.runs.specs.Rings.{Rules}
+use Rattle.std.proofs.Common.{vec_items, sym, ap, ◌∙◌, arith}
 use Rattle.runs.proofs.Running.{run_next, answers_next, run_all, answers_all}
 use Rattle.ring.specs.Meaning.{meaning, ruling}
 use Rattle.ring.proofs.ring.Ring.call_all.Goals as goal

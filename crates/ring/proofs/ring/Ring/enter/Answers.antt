@@ -1,4 +1,4 @@
-use Rattle.std.proofs.Common.{◌≡◌, vec_items, sym, refl, ap, ◌∙◌, arith}
+use Rattle.std.proofs.Common.{vec_items, sym, refl, ap, ◌∙◌, arith}
 use Rattle.wires.specs.Calls.{cleared}
 use Rattle.station.specs.Meaning.{model}
 use Rattle.station.specs.Rules.{enter_call}

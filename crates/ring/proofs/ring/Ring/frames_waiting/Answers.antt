@@ -1,4 +1,4 @@
-use Rattle.std.proofs.Common.{◌≡◌, Ok, vec_items, sym, ap, ◌∙◌, arith}
+use Rattle.std.proofs.Common.{Ok, vec_items, sym, ap, ◌∙◌, arith}
 use Rattle.station.specs.Meaning.{model}
 use Rattle.runs.proofs.Stepping.{off_roll, some_at}
 use Rattle.ring.specs.Meaning.{meaning}

@@ -1,4 +1,4 @@
-use Rattle.std.proofs.Common.{◌≡◌, vec_items, sym, refl, ap, ◌∙◌, arith}
+use Rattle.std.proofs.Common.{vec_items, sym, refl, ap, ◌∙◌, arith}
 use Rattle.station.specs.Meaning.{model}
 use Rattle.runs.proofs.Stepping.{off_roll, some_at, relined, lose_off, lose_empty, loses}
 use Rattle.ring.specs.Meaning.{meaning, ruling}

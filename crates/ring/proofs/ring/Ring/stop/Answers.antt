@@ -1,4 +1,4 @@
-use Rattle.std.proofs.Common.{◌≡◌, vec_items, sym, refl, ap, ◌∙◌, arith}
+use Rattle.std.proofs.Common.{vec_items, sym, refl, ap, ◌∙◌, arith}
 use Rattle.station.specs.Meaning.{model}
 use Rattle.station.specs.Rules.{stop_call}
 use Rattle.runs.proofs.Stepping.{off_roll, at_roll, put_item, answers_ok, answers_err, stop_off, stop_is}

@@ -1,7 +1,6 @@
-use Rattle.std.proofs.Common.{◌≡◌, vec_items, sym, refl, ap, ◌∙◌, arith}
+use Rattle.std.proofs.Common.{vec_items, sym, refl, ap, ◌∙◌, arith}
 use Rattle.journal.specs.Core.{is_out}
 use Rattle.station.specs.Meaning.{model}
-use Rattle.station.specs.Rules.{took}
 use Rattle.runs.proofs.Stepping.{off_roll, at_roll, same_item, put_item, relined, take_off, take_out, take_empty, takes}
 use Rattle.ring.specs.Meaning.{meaning, ruling}
 use Rattle.ring.proofs.Calls.{takes_it}

@@ -1,4 +1,4 @@
-use Rattle.std.proofs.Common.{◌≡◌, vec_items, sym, ap, ◌∙◌, arith}
+use Rattle.std.proofs.Common.{vec_items, ap, ◌∙◌, arith}
 use Rattle.station.specs.Model.{new_model}
 use Rattle.station.specs.Meaning.{model}
 use Rattle.ring.proofs.Making.{one_more, none_made, all_made}

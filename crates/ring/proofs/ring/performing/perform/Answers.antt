@@ -1,4 +1,4 @@
-use Rattle.std.proofs.Common.{◌≡◌, vec_items, sym, ap, ◌∙◌}
+use Rattle.std.proofs.Common.{vec_items, sym, ap, ◌∙◌}
 use Rattle.runs.specs.Promises.{Laws}
 use Rattle.runs.proofs.Running.{ran, told, promised}
 use Rattle.ring.specs.Meaning.{meaning, ruling}

@@ -2,7 +2,7 @@ use Rattle.std.proofs.Common.{ℕ, List, sym, refl, ap, ◌∙◌}
 use Rattle.journal.specs.Core.{core_of}
 use Rattle.protocol.specs.declared.entry.Entry.{Entry}
 use Rattle.turning.specs.Posts.{Posting}
-use Rattle.turning.specs.Steps.{chosen, put_off, serve}
+use Rattle.turning.specs.Steps.{chosen, put_off}
 use Rattle.turning.proofs.Posting.{unsaid, by_rule}
 use Rattle.turning.proofs.Keeping.{keeps_put_off}
 use Rattle.turning.proofs.Opening.{served_after, not_open, went_out, no_wish, one_wish}

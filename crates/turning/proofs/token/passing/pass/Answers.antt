@@ -2,7 +2,7 @@ use Rattle.std.proofs.Common.{List, sym, ap, ◌∙◌}
 use Rattle.journal.specs.Core.{core_of}
 use Rattle.journal.specs.Settle.{fed}
 use Rattle.protocol.specs.declared.entry.Entry.{Entry}
-use Rattle.turning.specs.Calls.{is_own, token}
+use Rattle.turning.specs.Calls.{is_own}
 use Rattle.turning.proofs.Posting.{unsaid, by_rule}
 use Rattle.turning.proofs.Calling.{pass_own, pass_other, none_firm}
 use Rattle.turning.proofs.token.passing.pass.Goals as goal

@@ -6,7 +6,6 @@ use Rattle.journal.specs.Settle.{fed, settle}
 use Rattle.journal.specs.declared.peer.Peer.{Peer}
 use Rattle.journal.specs.declared.state.State.{State}
 use Rattle.turning.specs.Calls.{pass_as}
-use Rattle.turning.specs.Posts.{after}
 use Rattle.turning.proofs.Posting.{unsaid, by_rule}
 use Rattle.turning.proofs.Calling.{posted_frame, none_firm}
 use Rattle.turning.proofs.token.passing.pass_on.Goals as goal

@@ -2,8 +2,7 @@ use Rattle.std.proofs.Common.{List, sym, refl, ap, ◌∙◌}
 use Rattle.std.proofs.lemmas.Bool.{true≢false}
 use Rattle.journal.specs.Core.{core_of}
 use Rattle.protocol.specs.declared.entry.Entry.{Entry}
-use Rattle.turning.specs.Calls.{Said, may_say, token, waiting}
-use Rattle.turning.specs.Posts.{after, say_body}
+use Rattle.turning.specs.Calls.{Said, may_say, waiting}
 use Rattle.turning.proofs.Posting.{unsaid, by_rule}
 use Rattle.turning.proofs.Keeping.{keeps_said, within}
 use Rattle.turning.proofs.Calling.{say_not, say_none, say_one, rest_none}
