@@ -1,6 +1,6 @@
 // The rule by heads: more than half of the stations.
 ghost use Rattle.std.specs.Prelude.{◌≡◌, ◌^◌, ◌<◌, ◌≤◌, true, Some, None, Ok, Err};
-ghost use Rattle.std.proofs.Common.{subst, arith, rules};
+ghost use Rattle.std.proofs.Common.{subst, sym};
 ghost use Rattle.protocol.specs.Limits.{max_stations};
 ghost use Rattle.vote.specs.Majority.{heads, majority};
 ghost use Rattle.vote.specs.Refused.{heads_refused};
@@ -37,17 +37,17 @@ impl VotingRule for Heads {
 
     ghost votes = { λ h. majority (heads h.stations) };
 
-    ghost few = { first_of (Prim.search rules, Prim.grind (arith, Self.row.coded.inj)) };
+    ghost few = { λ x. (x.some, x.few) };
 
     ghost within = { λ x m p. subst (λ k. m < 2 ^ k) (length_heads x.stations) (majority_roll (heads x.stations) m p) };
 
     ghost shares = { λ x a b p q. subst (λ k. Share k a b) (length_heads x.stations) (majority_shares (heads x.stations) a b p q) };
 
-    ghost grows = { λ x a b sub below p. majority_grows (heads x.stations) a b sub (rw length_heads below) p };
+    ghost grows = { λ x a b sub below p. majority_grows (heads x.stations) a b sub (subst (λ k. b < 2 ^ k) (sym (length_heads x.stations)) below) p };
 
     ghost all = { λ x.
         subst (λ k. majority (heads x.stations) (everyone k) ≡ true) (length_heads x.stations)
-        (majority_everyone (heads x.stations) (omega (arith, total_heads x.stations))) };
+        (majority_everyone (heads x.stations) (subst (λ k. 0 < k) (sym (total_heads x.stations)) x.some)) };
 
     fn roll(&self) -> u8 {
         self.stations

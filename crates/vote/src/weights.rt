@@ -3,7 +3,7 @@ ghost use Rattle.std.specs.Prelude.{◌≡◌, ◌^◌, ◌<◌, ◌≤◌, true
 ghost use Rattle.protocol.specs.Limits.{max_stations};
 ghost use Rattle.vote.specs.Majority.{total, weight, majority};
 ghost use Rattle.vote.specs.Refused.{each_fits, weights_refused};
-ghost use Rattle.std.proofs.Common.{subst, sym, arith, rules};
+ghost use Rattle.std.proofs.Common.{subst, sym};
 ghost use Rattle.vote.specs.Majorities.{length_taken, majority_roll, majority_shares, majority_grows, majority_everyone};
 ghost use Rattle.vote.specs.Mask.{Share, everyone};
 
@@ -100,7 +100,7 @@ impl VotingRule for Weights {
 
     ghost votes = { λ w. majority (take w.stations w.weights) };
 
-    ghost few = { first_of (Prim.search rules, Prim.grind (arith, Self.row.coded.inj)) };
+    ghost few = { λ x. (x.some, x.few) };
 
     ghost within = { λ x m p. subst (λ k. m < 2 ^ k) (length_taken x.stations max_stations x.weights x.few x.places) (majority_roll (take x.stations x.weights) m p) };
 
