@@ -1,28 +1,29 @@
 #!/bin/sh
 # Misuses of a turn's token that the compiler itself must refuse, each with the name of its error. `rt must-fail` takes
-# only what the prover refuses, so these are tried here: each edit of misuse/ is applied to a copy of the sources,
-# which is compiled without proofs. Needs no target/ and leaves the repository as it is.
+# only what the prover refuses, so these are tried here: each edit of misuse/ is applied to a copy of the sources, and
+# `rt check` looks at that before it proves anything. Leaves the repository as it is.
 set -u
 root=$(cd "$(dirname "$0")/.." && pwd)
-home=$(dirname "$(dirname "$(rt doc)")")
 work=$(mktemp -d) || exit 2
 trap 'rm -rf "$work"' EXIT
-mkdir "$work/empty"
-echo 'fn main() {}' >"$work/empty/main.rt"
 
-# Compiles the copy's crate `station` with all that it stands on, and prints the name of the first error, or none.
+# Compiles the copy's crate `station` with all that it stands on, and prints the name of the first error, or none. The
+# check is stopped as soon as the sources have compiled: its first pass over them ends in a line that begins with only=,
+# and where the crates below are proved already, it goes on at once with the proofs of `station`.
+compiled='^only=|^(fn|impl|struct|enum) station::'
 compile() {
-    set --
-    while IFS=: read -r lib used; do
-        set -- "$@" --lib "$lib:$(echo $used | tr ' ' ,)=$home/$lib/src/lib.rt"
-    done <"$home/libs.txt"
-    for lib in $(sed -n 's/^station: *//p' "$work/crates.txt") station; do
-        set -- "$@" --lib "$lib=$work/crates/$lib/src/lib.rt"
+    : >"$work/log"
+    (cd "$work/crates/station" && exec setsid rt check >"$work/log" 2>&1 </dev/null) &
+    check=$!
+    left=600
+    until grep -qE "$compiled|error\[" "$work/log" || ! kill -0 $check 2>/dev/null || [ $left -eq 0 ]; do
+        sleep 0.2
+        left=$((left - 1))
     done
-    "$home/bin/rattle-print-mir" "$work/empty/main.rt" --crate-name misuse "$@" >/dev/null 2>"$work/log"
-    status=$?
+    kill -- -$check 2>/dev/null
+    wait $check 2>/dev/null
     name=$(grep -o 'error\[[a-z0-9-]*\]' "$work/log" | head -n 1 | sed 's/error\[//; s/\]//')
-    if [ -n "$name" ]; then echo "$name"; elif [ $status -eq 0 ]; then echo none; else echo "no name, status $status"; fi
+    if [ -n "$name" ]; then echo "$name"; elif grep -qE "$compiled" "$work/log"; then echo none; else echo "no name"; fi
 }
 
 # Replaces the text OLD, which must stand exactly once in the file, by NEW.
@@ -39,7 +40,15 @@ replace() {
 bad=0
 for edit in none "$root"/misuse/*.edit; do
     rm -rf "$work/crates"
-    cp -R "$root/crates" "$root/crates.txt" "$work"
+    mkdir "$work/crates"
+    : >"$work/crates.txt"
+    for crate in $(sed -n 's/^station: *//p' "$root/crates.txt") station; do
+        grep "^$crate:" "$root/crates.txt" >>"$work/crates.txt"
+        mkdir "$work/crates/$crate"
+        for part in src specs proofs; do
+            [ ! -d "$root/crates/$crate/$part" ] || cp -R "$root/crates/$crate/$part" "$work/crates/$crate"
+        done
+    done
     want=none
     if [ "$edit" != none ]; then
         want=$(sed -n 's/^error: //p' "$edit")
