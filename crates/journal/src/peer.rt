@@ -7,6 +7,9 @@ use protocol::entry::End;
 use protocol::limits::MAX_STATIONS;
 use vote::mask::contains;
 
+// the table has a record for each number that a station can have
+pub const PEERS: usize = MAX_STATIONS as usize;
+
 // What a station keeps of another one: whether it was heard since the last own turn, up to which place both journals
 // are known to agree, and the end that it asked to be let in with.
 #[derive(Clone, Copy, PartialEq, Eq, Debug)]
@@ -17,7 +20,7 @@ pub struct Peer {
 }
 
 // Makes a station's known place at least k.
-pub fn raise(peers: &mut [Peer; 8], s: u8, k: u16)
+pub fn raise(peers: &mut [Peer; PEERS], s: u8, k: u16)
     requires { s < max_stations }
     ensures { peers.new ≡ raised s k peers.old }
 {
@@ -26,7 +29,7 @@ pub fn raise(peers: &mut [Peer; 8], s: u8, k: u16)
 }
 
 // Sets one heard mark.
-pub fn hear(peers: &mut [Peer; 8], s: u8)
+pub fn hear(peers: &mut [Peer; PEERS], s: u8)
     requires { s < max_stations }
     ensures { peers.new ≡ heard_one s peers.old }
 {
@@ -34,7 +37,7 @@ pub fn hear(peers: &mut [Peer; 8], s: u8)
 }
 
 // Sets every heard mark.
-pub fn hear_all(peers: &mut [Peer; 8])
+pub fn hear_all(peers: &mut [Peer; PEERS])
     ensures { peers.new ≡ heard_all peers.old }
 {
     for p in peers.iter_mut() {
@@ -43,7 +46,7 @@ pub fn hear_all(peers: &mut [Peer; 8])
 }
 
 // Keeps a wish, in the place of an older one.
-pub fn keep_wish(peers: &mut [Peer; 8], s: u8, end: End)
+pub fn keep_wish(peers: &mut [Peer; PEERS], s: u8, end: End)
     requires { s < max_stations }
     ensures { peers.new ≡ wished s end peers.old }
 {
@@ -51,7 +54,7 @@ pub fn keep_wish(peers: &mut [Peer; 8], s: u8, end: End)
 }
 
 // Clears every wish.
-pub fn clear_wishes(peers: &mut [Peer; 8])
+pub fn clear_wishes(peers: &mut [Peer; PEERS])
     ensures { peers.new ≡ unwished peers.old }
 {
     for p in peers.iter_mut() {
@@ -60,7 +63,7 @@ pub fn clear_wishes(peers: &mut [Peer; 8])
 }
 
 // Clears every heard mark and every wish.
-pub fn clear_marks(peers: &mut [Peer; 8])
+pub fn clear_marks(peers: &mut [Peer; PEERS])
     ensures { peers.new ≡ unmarked peers.old }
 {
     for p in peers.iter_mut() {
@@ -82,7 +85,7 @@ fn lesser_of(me: u8, view: u8, s: u8, p: &Peer, least: u16) -> u16
 }
 
 // The smallest of a length and the known places of the other members of a view.
-pub fn least_of(peers: &[Peer; 8], me: u8, view: u8, length: u16) -> u16
+pub fn least_of(peers: &[Peer; PEERS], me: u8, view: u8, length: u16) -> u16
     ensures value { result ≡ least_known me view 0 peers.now length }
     ensures bound { result ≤ length }
 {

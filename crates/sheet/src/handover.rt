@@ -13,12 +13,7 @@ use std::alloc::{AllocError, Global};
 fn is_filed(number: u32, filed: &[u32]) -> bool
     ensures { result ≡ is_filed number filed.now }
 {
-    for n in filed {
-        if *n == number {
-            return true;
-        }
-    }
-    false
+    filed.contains(&number)
 }
 
 // Adds what an entry has on the sheet: its line, indented, or nothing once it is filed.

@@ -5,14 +5,15 @@ ghost use Rattle.protocol.specs.Limits.{outbox_places};
 ghost use Rattle.queue.specs.Contents.{offered, oldest, rest};
 ghost use Rattle.turning.specs.Calls.{waiting};
 
+use protocol::limits::OUTBOX_PLACES;
 use protocol::note::Note;
 use queue::Queue;
 
-// A circular queue, and the 16 places that it is lent.
+// A circular queue, and the places that it is lent.
 #[derive(Clone, Copy)]
 pub struct Outbox {
     queue: Queue,
-    notes: [Note; 16],
+    notes: [Note; OUTBOX_PLACES],
 }
 
 impl Outbox {
@@ -28,7 +29,7 @@ impl Outbox {
         };
         Outbox {
             queue: Queue::new(),
-            notes: [none; 16],
+            notes: [none; OUTBOX_PLACES],
         }
     }
 

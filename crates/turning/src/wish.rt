@@ -4,14 +4,14 @@ ghost use Rattle.journal.specs.Core.{core_of};
 ghost use Rattle.turning.specs.Steps.{any_wish, asked, chosen, PlaceWithin, WishWithin};
 
 use crate::ring::station_after;
-use journal::peer::Peer;
+use journal::peer::{PEERS, Peer};
 use journal::reading::end_matches;
 use journal::status::Status;
 use protocol::entry::{End, Entry};
 use vote::mask::contains;
 
 // Whether any wish stands.
-fn has_wish(peers: &[Peer; 8]) -> bool
+fn has_wish(peers: &[Peer; PEERS]) -> bool
     ensures { result ≡ any_wish peers.now }
 {
     for p in peers {

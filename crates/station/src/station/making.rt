@@ -6,7 +6,7 @@ ghost use Rattle.station.specs.Meaning.{model};
 
 use super::Station;
 use books::book::Book;
-use journal::peer::Peer;
+use journal::peer::{PEERS, Peer};
 use journal::state::State;
 use journal::status::Status;
 use journal::store::Owned;
@@ -42,7 +42,7 @@ impl<B: Book + Drop> Station<B> {
                 roll,
                 state: State::Running,
                 firm: 0,
-                peers: [NEW_PEER; 8],
+                peers: [NEW_PEER; PEERS],
             },
             journal: Owned { items },
             outbox: Outbox::new(),
