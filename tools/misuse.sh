@@ -1,29 +1,28 @@
 #!/bin/sh
 # Misuses of a turn's token that the compiler itself must refuse, each with the name of its error. `rt must-fail` takes
-# only what the prover refuses, so these are tried here: each edit of misuse/ is applied to a copy of the sources, and
-# `rt check` looks at that before it proves anything. Leaves the repository as it is.
+# only what the prover refuses, so these are tried here: each edit of misuse/ is applied to a copy of the sources, which
+# is compiled and of which nothing is proved. Leaves the repository as it is.
 set -u
 root=$(cd "$(dirname "$0")/.." && pwd)
+kit=$(dirname "$(rt doc)")
 work=$(mktemp -d) || exit 2
 trap 'rm -rf "$work"' EXIT
+below=$(sed -n 's/^station: *//p' "$root/crates.txt")
 
-# Compiles the copy's crate `station` with all that it stands on, and prints the name of the first error, or none. The
-# check is stopped as soon as the sources have compiled: its first pass over them ends in a line that begins with only=,
-# and where the crates below are proved already, it goes on at once with the proofs of `station`.
-compiled='^only=|^(fn|impl|struct|enum) station::'
+# Compiles the copy's crate `station` with the sources of all that it stands on, and prints the name of the first error,
+# or none.
 compile() {
-    : >"$work/log"
-    (cd "$work/crates/station" && exec setsid rt check >"$work/log" 2>&1 </dev/null) &
-    check=$!
-    left=600
-    until grep -qE "$compiled|error\[" "$work/log" || ! kill -0 $check 2>/dev/null || [ $left -eq 0 ]; do
-        sleep 0.2
-        left=$((left - 1))
+    set --
+    for lib in $below; do
+        uses=$(sed -n "s/^$lib: *//p" "$root/crates.txt" | tr ' ' ,)
+        set -- "$@" --lib "$lib:core,std${uses:+,$uses}=$work/crates/$lib/src/lib.rt"
     done
-    kill -- -$check 2>/dev/null
-    wait $check 2>/dev/null
+    for lib in core std; do set -- "$@" --extern "$lib=$kit/rlibs/$lib.rlib"; done
+    (cd "$work/crates/station" && "$kit/bin/rattle" check --crate-name station src/lib.rt "$@" -L "dependency=$kit/rlibs" \
+        --antt-project "$kit/rattle/logic/antt-project.json" --logic-built "$kit/logic_built" --jobs 1 --only "") >"$work/log" 2>&1
     name=$(grep -o 'error\[[a-z0-9-]*\]' "$work/log" | head -n 1 | sed 's/error\[//; s/\]//')
-    if [ -n "$name" ]; then echo "$name"; elif grep -qE "$compiled" "$work/log"; then echo none; else echo "no name"; fi
+    # the last line where all sources compile
+    if [ -n "$name" ]; then echo "$name"; elif grep -q '^only=' "$work/log"; then echo none; else echo "no name"; fi
 }
 
 # Replaces the text OLD, which must stand exactly once in the file, by NEW.
@@ -40,14 +39,9 @@ replace() {
 bad=0
 for edit in none "$root"/misuse/*.edit; do
     rm -rf "$work/crates"
-    mkdir "$work/crates"
-    : >"$work/crates.txt"
-    for crate in $(sed -n 's/^station: *//p' "$root/crates.txt") station; do
-        grep "^$crate:" "$root/crates.txt" >>"$work/crates.txt"
-        mkdir "$work/crates/$crate"
-        for part in src specs proofs; do
-            [ ! -d "$root/crates/$crate/$part" ] || cp -R "$root/crates/$crate/$part" "$work/crates/$crate"
-        done
+    for lib in $below station; do
+        mkdir -p "$work/crates/$lib"
+        cp -R "$root/crates/$lib/src" "$root/crates/$lib/specs" "$work/crates/$lib" || exit 2
     done
     want=none
     if [ "$edit" != none ]; then
