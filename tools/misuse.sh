@@ -39,10 +39,7 @@ replace() {
 bad=0
 for edit in none "$root"/misuse/*.edit; do
     rm -rf "$work/crates"
-    for lib in $below station; do
-        mkdir -p "$work/crates/$lib"
-        cp -R "$root/crates/$lib/src" "$root/crates/$lib/specs" "$work/crates/$lib" || exit 2
-    done
+    (cd "$root" && cp -R --parents crates/*/src crates/*/specs "$work") || exit 2
     want=none
     if [ "$edit" != none ]; then
         want=$(sed -n 's/^error: //p' "$edit")
