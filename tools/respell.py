@@ -15,7 +15,7 @@ import sys
 TOP = sys.argv[1] if len(sys.argv) > 1 else "."
 CRATES = os.path.join(TOP, "crates")
 NAME = r"[^\s(){}.;,@\"«»\[\]]+"
-DASHED = re.compile(r"[A-Za-zκℓ][\w'′]*(?:[-·][\w'′]+)+")
+DASHED = re.compile(r"[A-Za-zκℓ][\w'′]*(?:[-·+][\w'′]+)+")
 USE = re.compile(r"\buse ([^\s;{]+)(\{[^;]*?\}(?=;|[ \t]*$))?(?: as ([^\s;]+))?", re.M)
 DECLARED = re.compile(r"^[ \t]*(?:(?:pub|abbrev|unfoldable|data|record|ruleset)[ \t]+)*(" + NAME + r")(?:[ \t]+(?:\{[^{}\n]*\}|\([^\n]*?\)))*[ \t]*:[ \t]", re.M)
 # words that the checker makes of several parts
@@ -72,6 +72,16 @@ def bare(text):
     return re.sub(r"(?m)--[^\n]*", "", text)
 
 
+def imports(text):
+    """The module and the names of each use line."""
+    return [(where, names_of(items, where)) for where, items, _ in USE.findall(text)]
+
+
+def answered(text):
+    """The names of goals that the text answers: they are the checker's."""
+    return set(re.findall(r"(?m)^(?:abbrev )?(?:pub )?(" + NAME + r") : \w+\.\1(?![\w'-])", bare(text)))
+
+
 declared, library, source = set(), set(), {}
 for crate in sorted(own_crates):
     folder = os.path.join(CRATES, crate)
@@ -79,17 +89,16 @@ for crate in sorted(own_crates):
     for path in below(os.path.join(folder, "src"), ".rt"):
         text = re.sub(r"//[^\n]*", "", read(path))
         words |= set(re.findall(r"[A-Za-z]\w*_\w+", text))
-        for where, items, _ in USE.findall(text):
+        for where, names in imports(text):
             if where.startswith("Rattle") and not is_own(where):
-                library |= set(names_of(items, where))
+                library |= set(names)
     source[crate] = {it.replace("_", "-"): it for it in words}
     for path in below(folder, ".antt"):
         text = bare(read(path))
-        of_goals = set(re.findall(r"(?m)^(?:abbrev )?(?:pub )?(" + NAME + r") : \w+\.\1(?![\w'-])", text))
-        declared |= {it for it in DECLARED.findall(text) if it not in of_goals}
-        for where, items, _ in USE.findall(text):
+        declared |= set(DECLARED.findall(text)) - answered(text)
+        for where, names in imports(text):
             if not is_own(where):
-                library |= set(names_of(items, where))
+                library |= set(names)
 declared = {it for it in declared if re.search(r"[-′·]", it) and DASHED.fullmatch(it)} - library
 
 
@@ -108,20 +117,16 @@ def label(name, crate):
 def antt(path, crate):
     text = read(path)
     proofs = "/proofs/" in path
-    made = set()
-    if proofs:
-        made |= set(re.findall(r"(?m)^(?:abbrev )?(?:pub )?(" + NAME + r") : \w+\.\1(?![\w'-])", bare(text)))
-        for where, items, _ in USE.findall(text):
-            if is_made(where):
-                made |= set(names_of(items, where))
-    imported = set()
-    for where, items, _ in USE.findall(text):
+    made, imported = answered(text) if proofs else set(), set()
+    for where, names in imports(text):
         if not is_own(where):
-            imported |= set(names_of(items, where))
+            imported |= set(names)
+        elif proofs and is_made(where):
+            made |= set(names)
 
     def one(m):
-        name, start = m[0], m.start()
-        dotted = start > 0 and text[start - 1] == "."
+        name = m[0]
+        dotted = m.start() > 0 and m.string[m.start() - 1] == "."
         if name in declared and name not in made and name not in imported:
             return respelled(name)
         if name in imported or name in library and not dotted:
@@ -133,19 +138,11 @@ def antt(path, crate):
         return snake(name) if name[0].islower() and proofs else name
 
     # dashes in comments are prose, but for names that are declared
-    out = []
-    for line in text.split("\n"):
-        out.append(line)
+    def in_prose(m):
+        return respelled(m[0]) if m[0] in declared and plainly(m[0]) else m[0]
+
     pieces = re.split(r"(--[^\n]*|\"(?:[^\"\\]|\\.)*\")", text)
-    done, result = 0, []
-    for piece in pieces:
-        if piece.startswith("--") or piece.startswith('"'):
-            result.append(DASHED.sub(lambda m: respelled(m[0]) if m[0] in declared and plainly(m[0]) else m[0], piece))
-        else:
-            offset = done
-            result.append(sub_at(piece, offset, text, one))
-        done += len(piece)
-    return "".join(result)
+    return "".join(DASHED.sub(in_prose if it.startswith(("--", '"')) else one, it) for it in pieces)
 
 
 def plainly(name):
@@ -153,36 +150,19 @@ def plainly(name):
     return name.count("-") >= 2 or name[0].isupper()
 
 
-class Found:
-    def __init__(self, m, offset):
-        self.m, self.offset = m, offset
+def rt(path):
+    def one(m):
+        return respelled(m[0]) if m[0] in declared else m[0]
 
-    def __getitem__(self, it):
-        return self.m[it]
-
-    def start(self):
-        return self.m.start() + self.offset
-
-
-def sub_at(piece, offset, text, one):
-    return DASHED.sub(lambda m: one(Found(m, offset)), piece)
-
-
-def rt(path, crate):
-    out = []
-    for piece in re.split(r"(//[^\n]*|\"(?:[^\"\\]|\\.)*\")", read(path)):
-        if piece.startswith('"') or piece.startswith("//"):
-            out.append(piece)
-        else:
-            out.append(DASHED.sub(lambda m: respelled(m[0]) if m[0] in declared else m[0], piece))
-    return "".join(out)
+    pieces = re.split(r"(//[^\n]*|\"(?:[^\"\\]|\\.)*\")", read(path))
+    return "".join(it if it.startswith(("//", '"')) else DASHED.sub(one, it) for it in pieces)
 
 
 for crate in sorted(own_crates):
     folder = os.path.join(CRATES, crate)
     for path in below(folder, ".antt", ".rt"):
         old = read(path)
-        new = antt(path, crate) if path.endswith(".antt") else rt(path, crate)
+        new = antt(path, crate) if path.endswith(".antt") else rt(path)
         if new != old:
             with open(path, "w", encoding="utf-8") as it:
                 it.write(new)
