@@ -1,6 +1,7 @@
 // What a ring answers about each of its stations: state, journal, firm count, book, outbox, and what it keeps of the others.
 #![tactic(auto)]
 
+// Each question stands written out: a function `ask(ring, at, |station| ..)` for all would be no shorter than `ring.station(at)?`.
 ghost use Rattle.std.specs.Prelude.{◌≡◌, Ok, Err};
 ghost use Rattle.ring.specs.Meaning.{meaning};
 ghost use Rattle.ring.specs.Questions.{asked};
@@ -20,16 +21,14 @@ use wires::wire::Wire;
 pub fn state<W: Wire<Frame>, B: Book, R>(ring: &Ring<W, B, R>, at: u32) -> Result<State, Refusal>
     ensures { result ≡ asked (meaning B.means W.lines ring.now) at state_of }
 {
-    let station = ring.station(at)?;
-    Ok(station.state())
+    Ok(ring.station(at)?.state())
 }
 
 // How many entries a station's journal has.
 pub fn len<W: Wire<Frame>, B: Book, R>(ring: &Ring<W, B, R>, at: u32) -> Result<usize, Refusal>
     ensures { result ≡ asked (meaning B.means W.lines ring.now) at length_of }
 {
-    let station = ring.station(at)?;
-    Ok(station.len())
+    Ok(ring.station(at)?.len())
 }
 
 // The entry at a place of a station's journal, counted from 1; none outside.
@@ -40,48 +39,42 @@ pub fn entry<W: Wire<Frame>, B: Book, R>(
 ) -> Result<Option<Entry>, Refusal>
     ensures { result ≡ asked (meaning B.means W.lines ring.now) at (entry_of place) }
 {
-    let station = ring.station(at)?;
-    Ok(station.entry(place))
+    Ok(ring.station(at)?.entry(place))
 }
 
 // The last place of a station's journal and that entry's turn.
 pub fn end<W: Wire<Frame>, B: Book, R>(ring: &Ring<W, B, R>, at: u32) -> Result<End, Refusal>
     ensures { result ≡ asked (meaning B.means W.lines ring.now) at end_of_journal }
 {
-    let station = ring.station(at)?;
-    Ok(station.end())
+    Ok(ring.station(at)?.end())
 }
 
 // The members of a station's newest view.
 pub fn newest_view<W: Wire<Frame>, B: Book, R>(ring: &Ring<W, B, R>, at: u32) -> Result<u8, Refusal>
     ensures { result ≡ asked (meaning B.means W.lines ring.now) at view_of }
 {
-    let station = ring.station(at)?;
-    Ok(station.newest_view())
+    Ok(ring.station(at)?.newest_view())
 }
 
 // How many entries of a station's journal are firm.
 pub fn firm<W: Wire<Frame>, B: Book, R>(ring: &Ring<W, B, R>, at: u32) -> Result<u16, Refusal>
     ensures { result ≡ asked (meaning B.means W.lines ring.now) at firm_of }
 {
-    let station = ring.station(at)?;
-    Ok(station.firm())
+    Ok(ring.station(at)?.firm())
 }
 
 // A station's book.
 pub fn book<W: Wire<Frame>, B: Book, R>(ring: &Ring<W, B, R>, at: u32) -> Result<&B, Refusal>
     ensures { elim result [ Ok b ↦ asked (meaning B.means W.lines ring.now) at book_of ≡ Ok (B.means b.now) | Err e ↦ asked (meaning B.means W.lines ring.now) at book_of ≡ Err e ] }
 {
-    let station = ring.station(at)?;
-    Ok(station.book())
+    Ok(ring.station(at)?.book())
 }
 
 // How many notes wait in a station's outbox.
 pub fn waiting<W: Wire<Frame>, B: Book, R>(ring: &Ring<W, B, R>, at: u32) -> Result<usize, Refusal>
     ensures { result ≡ asked (meaning B.means W.lines ring.now) at waiting_of }
 {
-    let station = ring.station(at)?;
-    Ok(station.waiting())
+    Ok(ring.station(at)?.waiting())
 }
 
 // The note of a station's outbox that has `i` older ones before it.
@@ -92,8 +85,7 @@ pub fn waiting_note<W: Wire<Frame>, B: Book, R>(
 ) -> Result<Option<Note>, Refusal>
     ensures { result ≡ asked (meaning B.means W.lines ring.now) at (note_of i) }
 {
-    let station = ring.station(at)?;
-    Ok(station.waiting_note(i))
+    Ok(ring.station(at)?.waiting_note(i))
 }
 
 // What a station keeps of another one: heard mark, known place and wish; none for any other number.
@@ -105,8 +97,6 @@ pub fn peer<W: Wire<Frame>, B: Book, R>(
     ensures { result ≡ asked (meaning B.means W.lines ring.now) at (peer_in other) }
 {
     let station = ring.station(at)?;
-    if other >= station.roll() as u32 {
-        return Ok(None);
-    }
-    Ok(station.peer(other as u8))
+    let other = u8::try_from(other).ok();
+    Ok(other.and_then(|other| station.peer(other)))
 }

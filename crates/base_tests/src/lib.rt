@@ -33,63 +33,21 @@ mod tests {
     #[test]
     fn largest_duty(rt: HostRuntime) -> Result<(), Fail> {
         let mut book = EntryBook::new(rt.alloc())?;
+        let number = 9_999_999;
         let most = 1_000_000_000;
-        for note in [
-            Note {
-                a: 1,
-                b: 9_999_999,
-                c: most,
-                d: 10_000,
-            },
-            Note {
-                a: 2,
-                b: 9_999_999,
-                c: most,
-                d: 0,
-            },
-            Note {
-                a: 3,
-                b: 9_999_999,
-                c: most,
-                d: 0,
-            },
-            Note {
-                a: 4,
-                b: 9_999_999,
-                c: 0,
-                d: 0,
-            },
-        ] {
-            assert!(rt; give_number(&mut book, note) == 0);
+        for (a, c, d) in [(1, most, 10_000), (2, most, 0), (3, most, 0), (4, 0, 0)] {
+            let note = Note { a, b: number, c, d };
+            assert_eq!(rt; give_number(&mut book, note), 0);
         }
-        assert!(rt;
-            give_number(
-                &mut book,
-                Note {
-                    a: 2,
-                    b: 10_000_000,
-                    c: most,
-                    d: 0,
-                },
-            ) == 1
-        );
-        assert!(rt;
-            give_number(
-                &mut book,
-                Note {
-                    a: 2,
-                    b: 1,
-                    c: most + 1,
-                    d: 0,
-                },
-            ) == 1
-        );
-        match book.find(9_999_999) {
-            Some(entry) => {
-                assert!(rt; matches!(entry.duty, Some(3_000_000_000)));
-                Ok(())
-            },
-            None => Err(Fail::new("the entry is gone")),
+        for (b, c) in [(10_000_000, most), (1, most + 1)] {
+            let note = Note { a: 2, b, c, d: 0 };
+            assert_eq!(rt; give_number(&mut book, note), 1);
         }
+        let Some(entry) = book.find(number) else {
+            return Err(Fail::new("the entry is gone"));
+        };
+        assert_eq!(rt; entry.duty, Some(3_000_000_000));
+        assert_eq!(rt; book.entries(), [entry].as_slice());
+        Ok(())
     }
 }

@@ -1,3 +1,5 @@
 -- The lemmas that books share.
-mod Searches
+pub mod Searches
 pub mod Places
+pub mod Feeding
+pub mod Answers

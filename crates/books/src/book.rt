@@ -5,7 +5,7 @@ ghost use Rattle.protocol.specs.declared.note.Note.{Note};
 use protocol::note::Note;
 use std::alloc::AllocError;
 
-// A book's answer to a note. Its number is 0 if the note was taken.
+// A book's answer to a note, an enum of its own whose cases the rules number. The number is 0 if the note was taken.
 pub trait Verdict {
     ghost number: { Self → ℕ };
 
@@ -37,6 +37,10 @@ pub trait Book {
     // A note that is not taken leaves the state as it is.
     ghost refused: { (s : State) (x : Note) → (Self.Verdict.Verdict.number (verdict s x) ≢ 0) → next s x ≡ s };
 }
+
+// A note that asks nothing of a book: another kind of note, a figure out of its range, or not 0 where 0 is due.
+#[derive(Clone, Copy, PartialEq, Eq, Debug)]
+pub struct MalformedNote;
 
 // A book that others can start from.
 pub trait StartingBook: Book + Sized {

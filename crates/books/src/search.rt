@@ -1,57 +1,44 @@
 // Reading a list by place and by a test, for elements of any type.
-ghost use Rattle.std.specs.Prelude.{◌≡◌, ◌<◌, Bool, length, MatchOption};
-ghost use Rattle.books.specs.Places.{place_where, found_place, first_where, count_where, at_place};
-
-// A test that each element passes or fails.
-pub trait Test<T> {
-    ghost passed: { Self → T → Bool };
-
-    fn passes(&self, item: &T) -> bool
-        ensures { result ≡ passed self.now item.now };
-}
+ghost use Rattle.std.specs.Prelude.{◌≡◌, Bool, position, find, count_by};
+ghost use Rattle.std.specs.Fn.{FnReturnsAt};
+ghost use Rattle.books.specs.Places.{Tells, at_place};
 
 // The place of the first element that passes, counted from 0.
-pub fn first_place<T, Q: Test<T>>(items: &[T], test: &Q) -> Option<usize>
-    ensures value { result ≡ found_place (Q.passed test.now) items.now }
-    ensures cases { MatchOption result (place_where (Q.passed test.now) items.now ≡ length items.now) (λ i. (i ≡ place_where (Q.passed test.now) items.now) × (i < length items.now)) }
+pub fn first_place<T, F: Fn(&T) -> bool>(items: &[T], test: F) -> Option<usize>
+    requires { F.IsAlwaysCallable test }
+    ensures { (p : T → Bool) → Tells F.Fn test p → result ≡ position p items.now }
 {
-    for (i, item) in items.iter().enumerate() {
-        if test.passes(item) {
-            return Some(i);
-        }
-    }
-    None
+    items.iter().position(test)
 }
 
 // The first element that passes.
-pub fn find_first<T: Copy, Q: Test<T>>(items: &[T], test: &Q) -> Option<T>
-    ensures { result ≡ first_where (Q.passed test.now) items.now }
+pub fn find_first<T: Copy, F: Fn(&T) -> bool>(items: &[T], test: F) -> Option<T>
+    requires { F.IsAlwaysCallable test }
+    ensures { (p : T → Bool) → Tells F.Fn test p → result ≡ find p items.now }
 {
-    match first_place(items, test) {
-        Some(place) => Some(items[place]),
-        None => None,
-    }
+    let place = first_place(items, test)?;
+    items.get(place).copied()
 }
 
 // How many elements pass.
-pub fn count_where<T, Q: Test<T>>(items: &[T], test: &Q) -> usize
-    ensures { result ≡ count_where (Q.passed test.now) items.now }
+pub fn count_where<T, F: Fn(&T) -> bool>(items: &[T], test: F) -> usize
+    requires { F.IsAlwaysCallable test }
+    ensures { (p : T → Bool) → Tells F.Fn test p → result ≡ count_by p items.now }
 {
-    let mut count = 0;
-    for item in items {
-        if test.passes(item) {
-            count += 1;
-        }
-    }
-    count
+    items
+        .iter()
+        .filter(
+            |item|
+                requires { F.IsAlwaysCallable test }
+                ensures { FnReturnsAt F.Fn test item.now.now result }
+            { test(item) },
+        )
+        .count()
 }
 
 // What stands at a place, counted from 1: none outside.
 pub fn at_place<T: Copy>(items: &[T], place: usize) -> Option<T>
     ensures { result ≡ at_place place items.now }
 {
-    if place < 1 || place > items.len() {
-        return None;
-    }
-    Some(items[place - 1])
+    items.get(place.checked_sub(1)?).copied()
 }

@@ -1,36 +1,48 @@
 -- What a claim finds in the table, and the verdict on it. Assumes nothing.
-use Rattle.std.proofs.Common.{◌≡◌, ℕ, ◌<◌, ◌≤◌, Bool, false, cond, length, is_some, Some, None, Option, sym, ap, ◌∙◌, subst, arith, MatchOption}
-use Rattle.std.proofs.lemmas.Bool.{lt-ltb, le-ltb, false≢true}
-use Rattle.books.specs.Places.{place_where, any_where}
-use Rattle.claims.specs.ClaimBook.{Places, is_free, holds_file, making_verdict}
+use Rattle.std.proofs.Common.{◌≡◌, ℕ, ◌<◌, ◌≤◌, Bool, true, false, length, get_or, is_some, position, Some, None, Option, refl, sym, ap, ◌∙◌, ⊎_elim, arith}
+use Rattle.std.specs.Option.{option_flatten}
+use Rattle.std.specs.List.{position_or_len}
+use Rattle.std.proofs.lemmas.Bool.{cases_lt, lt-ltb, le-ltb, false≢true}
+use Rattle.std.proofs.lemmas.List.Folds.{find_at}
+use Rattle.std.proofs.lemmas.List.Sums.{passes_at_first}
+use Rattle.std.proofs.lemmas.Option.{slice_get-get_or, slice_get_past}
+use Rattle.books.specs.Places.{any_where}
+use Rattle.books.proofs.Searches.{place_bound, found_at, found_none}
+use Rattle.claims.specs.ClaimBook.{Places, is_free, holds_file, claim_of, making_verdict}
 use Rattle.claims.specs.declared.claim.Claim.{Claim}
 use Rattle.claims.specs.declared.claim_verdict.ClaimVerdict.TheVariants.{Taken, AlreadyClaimed, NoPlace}
 
-none_case : (o : Option ℕ) (P : Type 0) (Q : ℕ → Type 0) → MatchOption o P Q → is_some o ≡ false → P
-none_case None P Q h e = h
-none_case (Some x) P Q h e = absurd (false≢true (sym e))
+-- a place that holds a file is not free
+holds_some : (f : ℕ) (o : Option Claim) → holds_file f o ≡ true → is_some o ≡ true
+holds_some f None h = absurd (false≢true h)
+holds_some f (Some m) h = refl
 
--- a search of ys, which is the whole table, that found nothing
-pub unseen : (test : Option Claim → Bool) (s ys : Places) (o : Option ℕ) (b : Bool) → ys ≡ s
-    → MatchOption o (place_where test ys ≡ length ys) (λ i. (i ≡ place_where test ys) × (i < length ys)) → b ≡ is_some o → b ≡ false → place_where test s ≡ length s
-unseen test s ys o b same found tells f =
-    subst (λ (zs : Places). place_where test zs ≡ length zs) same
-    (none_case o (place_where test ys ≡ length ys) (λ (i : ℕ). (i ≡ place_where test ys) × (i < length ys)) found (sym tells ∙ f))
+-- a file has a claim just where some place holds it
+pub is_claimed_where : (f : ℕ) (s : Places) → is_some (claim_of f s) ≡ any_where (holds_file f) s
+is_claimed_where f s =
+    let p = holds_file f in
+    let n = position_or_len p s in
+    ⊎_elim
+    (λ (lt : n < length s).
+    ap (λ (o : Option (Option Claim)). is_some (option_flatten o)) (find_at p s ∙ slice_get-get_or s n None lt)
+    ∙ (holds_some f (get_or s n None) (passes_at_first p s None lt) ∙ sym (lt-ltb n (length s) lt)))
+    (λ (ge : length s ≤ n). ap (λ (o : Option (Option Claim)). is_some (option_flatten o)) (find_at p s ∙ slice_get_past s n ge) ∙ sym (le-ltb n (length s) ge))
+    (cases_lt n (length s))
 
--- and one that found a place
-pub seen : (test : Option Claim → Bool) (s ys : Places) (i : ℕ) → ys ≡ s → (i ≡ place_where test ys) × (i < length ys) → (i ≡ place_where test s) × (i < length s)
-seen test s ys i same h = subst (λ (zs : Places). (i ≡ place_where test zs) × (i < length zs)) same h
+-- a test that no place passes
+pub nowhere : (test : Option Claim → Bool) (s : Places) → any_where test s ≡ false → position_or_len test s ≡ length s
+nowhere test s f = let b = place_bound test s in grind arith
 
-module _ (s : Places) (m : Claim) (none : place_where (holds_file m.file) s ≡ length s) where
-  unclaimed : making_verdict m s ≡ cond (any_where is_free s) Taken NoPlace
-  unclaimed =
-      let ge : length s ≤ place_where (holds_file m.file) s = omega arith in
-      ap (λ (b : Bool). cond b AlreadyClaimed (cond (any_where is_free s) Taken NoPlace)) (le-ltb (place_where (holds_file m.file) s) (length s) ge)
+module _ (s : Places) (m : Claim) where
+  pub claimed_before : true ≡ is_some (claim_of m.file s) → AlreadyClaimed ≡ making_verdict m s
+  claimed_before t = let where_held = is_claimed_where m.file s in grind arith
 
-  pub no_place : place_where is_free s ≡ length s → NoPlace ≡ making_verdict m s
-  no_place e =
-      let ge : length s ≤ place_where is_free s = omega arith in
-      sym (unclaimed ∙ ap (λ (b : Bool). cond b Taken NoPlace) (le-ltb (place_where is_free s) (length s) ge))
+  module _ (f : false ≡ is_some (claim_of m.file s)) where
+    pub unclaimed_place : position_or_len (holds_file m.file) s ≡ length s
+    unclaimed_place = nowhere (holds_file m.file) s (sym (f ∙ is_claimed_where m.file s))
 
-  pub room : place_where is_free s < length s → Taken ≡ making_verdict m s
-  room lt = sym (unclaimed ∙ ap (λ (b : Bool). cond b Taken NoPlace) (lt-ltb (place_where is_free s) (length s) lt))
+    pub no_place : None ≡ position is_free s → NoPlace ≡ making_verdict m s
+    no_place at = let where_held = is_claimed_where m.file s in let none = found_none is_free s at in grind arith
+
+    pub room : (i : ℕ) → Some i ≡ position is_free s → Taken ≡ making_verdict m s
+    room i at = let where_held = is_claimed_where m.file s in let found = found_at is_free s i at in grind arith

@@ -1,10 +1,13 @@
 -- The claim book: what a note asks, which verdict it gets and what the book holds then. Assumes nothing.
-use Rattle.std.specs.Prelude.{ℕ, ◌<◌, Bool, true, false, cond, ◌&&◌, List, replicate, is_some, Some, None, Option, ◌==◌, ◌≢◌, nat_lt, slice_index_or, slice_set}
+use Rattle.std.specs.Prelude.{◌≡◌, ℕ, ◌<◌, Bool, true, false, cond, ◌&&◌, List, replicate, find, count_by, is_some, Some, None, Option, ◌==◌, ◌≢◌, nat_lt, slice_index_or, slice_set, Result}
+use Rattle.std.specs.Result.{result_ok}
+use Rattle.std.specs.List.{position_or_len}
 use Rattle.std.specs.Option.{option_flatten}
 use Rattle.protocol.specs.Limits.{max_stations}
 use Rattle.protocol.specs.declared.note.Note.{Note}
 use Rattle.books.specs.Limits.{is_number}
-use Rattle.books.specs.Places.{place_where, any_where, first_where, count_where, at_place}
+use Rattle.books.specs.declared.book.MalformedNote.{MalformedNote}
+use Rattle.books.specs.Places.{any_where, at_place}
 use Rattle.claims.specs.Limits.{claim_places}
 use Rattle.claims.specs.declared.claim.Claim.{Claim}
 use Rattle.claims.specs.declared.claim.ClaimAct.{ClaimAct}
@@ -28,6 +31,10 @@ act_of a m = cond (a == 1) (Some (Make m)) (cond (a == 2) (Some (Release m)) Non
 
 abbrev pub claim_act : Note → Option ClaimAct
 claim_act x = cond (is_number x.b && (nat_lt x.c max_stations && x.d == 0)) (act_of x.a (record { file = x.b; station = x.c })) None
+
+-- what reading the note as an act gives: an error if it is malformed
+abbrev pub Asks : Note → Result ClaimAct MalformedNote → Type 0
+Asks x r = result_ok r ≡ claim_act x
 
 -- ---- what the book holds: a table of places, each free or with a claim
 
@@ -54,13 +61,13 @@ holds_claim m None = false
 holds_claim m (Some held) = held.file == m.file && held.station == m.station
 
 abbrev pub claim_of : ℕ → Places → Option Claim
-claim_of f s = option_flatten (first_where (holds_file f) s)
+claim_of f s = option_flatten (find (holds_file f) s)
 
 abbrev pub claim_at : ℕ → Places → Option Claim
 claim_at p s = option_flatten (at_place p s)
 
 abbrev pub claim_count : Places → ℕ
-claim_count s = count_where is_claimed s
+claim_count s = count_by is_claimed s
 
 -- ---- the verdict
 
@@ -82,10 +89,10 @@ claim_verdict s x = act_verdict (claim_act x) s
 
 -- a claim goes to the first free place, and a release frees the claim's place
 abbrev pub made : Claim → Places → Places
-made m s = slice_set s (place_where is_free s) (Some m)
+made m s = slice_set s (position_or_len is_free s) (Some m)
 
 abbrev pub released : Claim → Places → Places
-released m s = slice_set s (place_where (holds_claim m) s) None
+released m s = slice_set s (position_or_len (holds_claim m) s) None
 
 abbrev pub act_next : Option ClaimAct → Places → Places
 act_next None s = s

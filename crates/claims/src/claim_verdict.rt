@@ -3,29 +3,23 @@ ghost use Rattle.claims.specs.ClaimBook.{claim_verdict_number};
 
 use books::book::Verdict;
 
-#[derive(Clone, Copy)]
+#[derive(Clone, Copy, PartialEq, Eq, Debug)]
 pub enum ClaimVerdict {
-    Taken,
+    Taken = 0,
     // another kind of note, a figure out of range, or not 0 where 0 is due
-    Malformed,
+    Malformed = 1,
     // the file is claimed already, by whichever station
-    AlreadyClaimed,
+    AlreadyClaimed = 2,
     // no place is left for another claim
-    NoPlace,
+    NoPlace = 3,
     // the station to release the file has not claimed it
-    NotClaimed,
+    NotClaimed = 4,
 }
 
 impl Verdict for ClaimVerdict {
     ghost number = { claim_verdict_number };
 
     fn number(&self) -> u8 {
-        match self {
-            ClaimVerdict::Taken => 0,
-            ClaimVerdict::Malformed => 1,
-            ClaimVerdict::AlreadyClaimed => 2,
-            ClaimVerdict::NoPlace => 3,
-            ClaimVerdict::NotClaimed => 4,
-        }
+        *self as u8
     }
 }

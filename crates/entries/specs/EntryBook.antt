@@ -1,10 +1,11 @@
 -- The entry book: what a note asks, which verdict it gets and what the book holds then. Assumes nothing.
-use Rattle.std.specs.Prelude.{◌≡◌, ℕ, ◌+◌, ◌*◌, ◌/◌, ◌<◌, Bool, true, cond, ◌&&◌, List, [], ◌∷◌, ◌++◌, map, length, is_some, Some, None, Option, ◌==◌, nat_le, nat_lt, slice_index_or}
+use Rattle.std.specs.Prelude.{◌≡◌, ℕ, ◌+◌, ◌*◌, ◌/◌, Bool, true, cond, ◌&&◌, List, [], ◌∷◌, ◌++◌, All, map, find, length, is_some, Some, None, Option, ◌==◌, nat_le, nat_lt, Result, IfOk}
+use Rattle.std.specs.Result.{result_ok}
 use Rattle.std.specs.Option.{unwrap_or}
 use Rattle.protocol.specs.declared.note.Note.{Note}
 use Rattle.books.specs.Limits.{is_number}
 use Rattle.entries.specs.Limits.{entry_places, max_amount, max_rate, whole_rate, max_duty}
-use Rattle.books.specs.Places.{first_where}
+use Rattle.books.specs.declared.book.MalformedNote.{MalformedNote}
 use Rattle.entries.specs.declared.customs_entry.CustomsEntry.{CustomsEntry}
 use Rattle.entries.specs.declared.entry_act.EntryAct.{EntryAct}
 use Rattle.entries.specs.declared.entry_act.EntryAct.TheVariants.{Open, Freight, Insurance, Close}
@@ -51,6 +52,10 @@ lawful_act (Freight c) = is_amount c
 lawful_act (Insurance c) = is_amount c
 lawful_act Close = true
 
+-- what reading the note as an act gives: nothing but an error if it is malformed, and an act whose figures are in range
+abbrev pub Asks : Note → Result EntryAct MalformedNote → Type 0
+Asks x r = (result_ok r ≡ entry_act x) × IfOk r (λ act. (is_number x.b ≡ true) × (lawful_act act ≡ true))
+
 -- ---- what the book holds
 
 abbrev pub has_number : ℕ → CustomsEntry → Bool
@@ -58,7 +63,7 @@ has_number n e = e.number == n
 
 -- the entry of that number
 abbrev pub entry_of : ℕ → List CustomsEntry → Option CustomsEntry
-entry_of n s = first_where (has_number n) s
+entry_of n s = find (has_number n) s
 
 -- the numbers of all entries, in order of opening
 abbrev pub numbers : List CustomsEntry → List ℕ
@@ -159,4 +164,4 @@ no_entry = opened 0 0 0
 
 -- every entry's figures are
 abbrev pub InRange : List CustomsEntry → Type 0
-InRange s = (k : ℕ) → k < length s → in_range (slice_index_or s k no_entry) ≡ true
+InRange s = All (λ e. in_range e ≡ true) s

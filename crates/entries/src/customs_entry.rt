@@ -1,16 +1,15 @@
 // An entry of the entry book, and what an act makes of it.
 ghost use Rattle.std.specs.Prelude.{◌≡◌, ◌≤◌, true};
 ghost use Rattle.entries.specs.Limits.{max_duty};
-ghost use Rattle.entries.specs.EntryBook.{has_number, in_range, duty_of, amount_verdict, closing_verdict, known_verdict, entry_after, lawful_act};
+ghost use Rattle.entries.specs.EntryBook.{in_range, duty_of, amount_verdict, closing_verdict, known_verdict, entry_after, lawful_act};
 
 use crate::entry_act::EntryAct;
 use crate::entry_verdict::EntryVerdict;
 use crate::limits::WHOLE_RATE;
-use books::search::Test;
 
 // An entry has a price and a rate from its opening on; freight, insurance and duty are absent until given.
 // Amounts are in cents, the rate in hundredths of a per cent. An entry that has its duty is closed.
-#[derive(Clone, Copy)]
+#[derive(Clone, Copy, PartialEq, Eq, Debug)]
 pub struct CustomsEntry {
     pub number: u32,
     pub price: u32,
@@ -93,17 +92,5 @@ impl CustomsEntry {
                 ..self
             },
         }
-    }
-}
-
-// Whether an entry has this number.
-#[derive(Clone, Copy)]
-pub(crate) struct OfNumber(pub u32);
-
-impl Test<CustomsEntry> for OfNumber {
-    ghost passed = { λ q e. has_number q.0 e };
-
-    fn passes(&self, item: &CustomsEntry) -> bool {
-        item.number == self.0
     }
 }

@@ -3,38 +3,29 @@ ghost use Rattle.entries.specs.EntryBook.{entry_verdict_number};
 
 use books::book::Verdict;
 
-#[derive(Clone, Copy)]
+#[derive(Clone, Copy, PartialEq, Eq, Debug)]
 pub enum EntryVerdict {
-    Taken,
+    Taken = 0,
     // another kind of note, a figure out of range, or not 0 where 0 is due
-    Malformed,
+    Malformed = 1,
     // an entry of that number was opened before, and may be closed by now
-    OpenedBefore,
+    OpenedBefore = 2,
     // no place is left for another entry
-    NoPlace,
+    NoPlace = 3,
     // no entry has that number
-    UnknownEntry,
+    UnknownEntry = 4,
     // the entry is closed
-    Closed,
+    Closed = 5,
     // that amount was given before
-    GivenBefore,
+    GivenBefore = 6,
     // an entry cannot be closed without freight
-    NoFreight,
+    NoFreight = 7,
 }
 
 impl Verdict for EntryVerdict {
     ghost number = { entry_verdict_number };
 
     fn number(&self) -> u8 {
-        match self {
-            EntryVerdict::Taken => 0,
-            EntryVerdict::Malformed => 1,
-            EntryVerdict::OpenedBefore => 2,
-            EntryVerdict::NoPlace => 3,
-            EntryVerdict::UnknownEntry => 4,
-            EntryVerdict::Closed => 5,
-            EntryVerdict::GivenBefore => 6,
-            EntryVerdict::NoFreight => 7,
-        }
+        *self as u8
     }
 }

@@ -1,20 +1,27 @@
 -- What notes keep of a book of entries: the proofs of its laws. Assumes nothing.
 use Rattle.std.proofs.Common.{◌≡◌, ℕ, ◌+◌, ◌-◌, ◌*◌, ◌/◌, ◌%◌, ◌<◌, ◌≤◌, true, cond, List, [], ◌∷◌, ◌++◌, length, get_or, set, is_some, Some, None, Option, unwrap_or, sym, refl, ap, ◌∙◌, subst, ⊎_elim, arith}
-use Rattle.std.specs.List.{slice_get}
+use Rattle.std.specs.List.{slice_get, position_or_len}
 use Rattle.std.proofs.lemmas.Nat.{div-add-mod', mod_below}
 use Rattle.std.proofs.lemmas.List.{length-map, length_push, length-set, get_or-map}
 use Rattle.std.proofs.lemmas.Bool.{cases_eq, cases_lt, eq-eqb, eqb-true, false≢true}
 use Rattle.protocol.specs.declared.note.Note.{Note}
 use Rattle.entries.specs.Limits.{entry_places, whole_rate}
-use Rattle.books.specs.Places.{place_where, Apart}
-use Rattle.entries.specs.EntryBook.{has_number, numbers, opened, entry_after, duty_of, known_verdict, entry_next, is_taken, no_entry, InRange}
-use Rattle.entry_laws.specs.EntryLaws.{book_after, ClosedEntriesNeverChange, Grown, EntriesStay, EntriesAreFound, Always, NoNumberTwice, Due, DutiesDue, DutiesAreDue, NeverOverFull, FiguresStayInRange}
+use Rattle.books.specs.Places.{Apart}
+use Rattle.books.proofs.Feeding.{always}
+use Rattle.books.specs.Feeding.{Always}
+use Rattle.books.proofs.Searches.{place_least}
+use Rattle.std.proofs.lemmas.List.Elements.{All-push, All-set}
+use Rattle.std.proofs.lemmas.List.Folds.{find_at}
+use Rattle.std.proofs.lemmas.List.Sums.{passes_at_first}
+use Rattle.std.proofs.lemmas.Option.{slice_get_within, get_or_from_slice_get}
+use Rattle.entries.specs.EntryBook.{has_number, numbers, opened, entry_after, duty_of, known_verdict, entry_next, is_taken, in_range, no_entry, InRange}
+use Rattle.entry_laws.specs.EntryLaws.{book_after, ClosedEntriesNeverChange, Grown, EntriesStay, EntriesAreFound, NoNumberTwice, Due, DutiesDue, DutiesAreDue, NeverOverFull, FiguresStayInRange}
 use Rattle.entries.specs.declared.customs_entry.CustomsEntry.{CustomsEntry}
 use Rattle.entries.specs.declared.entry_act.EntryAct.{EntryAct}
 use Rattle.entries.specs.declared.entry_act.EntryAct.TheVariants.{Open, Freight, Insurance, Close}
 use Rattle.entries.specs.declared.entry_verdict.EntryVerdict.TheVariants.{Taken, Closed, GivenBefore, NoFreight}
-use Rattle.books.proofs.Places.{nth_reads, nth_push, nth_pushed, nth_set_here, nth_set_there, at_nth, nth_at, first_passes, place_least}
-use Rattle.entries.proofs.Entries.{after_number, opened_apart, replaced_apart, opened_ranged, opened_in_range, replaced_ranged}
+use Rattle.books.proofs.Places.{nth_push, nth_pushed, nth_set_here, nth_set_there, at_nth, nth_at}
+use Rattle.entries.proofs.Entries.{after_number, opened_apart, replaced_apart, opened_in_range}
 use Rattle.entries.proofs.Duties.{after_ranged}
 use Rattle.entry_laws.proofs.Steps.{Step, stays, opens, changes, step}
 
@@ -31,10 +38,7 @@ closing_taken None (Some f) h = (refl, (f, refl))
 closing_taken (Some d) freight h = absurd (false≢true h)
 
 taken_open : (act : EntryAct) (e : CustomsEntry) → is_taken (known_verdict act e) ≡ true → e.duty ≡ None
-taken_open (Open p r) e h = absurd (false≢true h)
-taken_open (Freight c) e h = (amount_taken e.duty e.freight h).0
-taken_open (Insurance c) e h = (amount_taken e.duty e.insurance h).0
-taken_open Close e h = (closing_taken e.duty e.freight h).0
+taken_open act e h = grind arith
 
 -- an amount is not both absent and there
 clash : {P : Type 0} (o : Option ℕ) (n : ℕ) → o ≡ None → o ≡ Some n → P
@@ -50,7 +54,7 @@ module _ (s t : List CustomsEntry) (j : ℕ) (e : CustomsEntry) (stood : slice_g
       ap (λ (l : List CustomsEntry). slice_get l j) q
       ∙ ⊎_elim
       (λ (same : j ≡ i).
-      let there : get_or s i no_entry ≡ e = ap (λ (k : ℕ). get_or s k no_entry) (sym same) ∙ (nth_reads s j e no_entry stood).1 in
+      let there : get_or s i no_entry ≡ e = ap (λ (k : ℕ). get_or s k no_entry) (sym same) ∙ get_or_from_slice_get s j e no_entry stood in
       clash e.duty d (ap (λ (x : CustomsEntry). x.duty) (sym there) ∙ taken_open act (get_or s i no_entry) taken) closed)
       (λ (apart : j ≡ i → ⊥). nth_set_there s i j (entry_after act (get_or s i no_entry)) apart ∙ stood) (cases_eq j i)
 
@@ -91,7 +95,7 @@ grown_step s t j e stood (changes act i lawful within taken q) =
     let was = get_or s i no_entry in
     ⊎_elim
     (λ (same : j ≡ i).
-    let there : was ≡ e = ap (λ (k : ℕ). get_or s k no_entry) (sym same) ∙ (nth_reads s j e no_entry stood).1 in
+    let there : was ≡ e = ap (λ (k : ℕ). get_or s k no_entry) (sym same) ∙ get_or_from_slice_get s j e no_entry stood in
     record {
       later = entry_after act was;
       stands = ap (λ (l : List CustomsEntry). slice_get l j) q ∙ (ap (λ (k : ℕ). slice_get (set s i (entry_after act was)) k) same ∙ nth_set_here s i (entry_after act was) within);
@@ -128,38 +132,35 @@ all_stay s notes k e stands =
 pub all_found : EntriesAreFound
 all_found s k e apart stands =
     let h = at_nth k s e stands in
-    let read = nth_reads s (k - 1) e no_entry h.1 in
+    let within = slice_get_within s (k - 1) e h.1 in
     let test = has_number e.number in
-    let p = place_where test s in
-    let same : (get_or s (k - 1) no_entry).number ≡ e.number = ap (λ (x : CustomsEntry). x.number) read.1 in
-    let least : p ≤ k - 1 = place_least test s (k - 1) no_entry read.0 (eq-eqb (get_or s (k - 1) no_entry).number e.number same) in
-    let in_book : p < length s = omega (arith, read.0) in
-    let first : (get_or s p no_entry).number ≡ e.number = eqb-true (get_or s p no_entry).number e.number (first_passes test s no_entry in_book) in
+    let p = position_or_len test s in
+    let same : (get_or s (k - 1) no_entry).number ≡ e.number = ap (λ (x : CustomsEntry). x.number) (get_or_from_slice_get s (k - 1) e no_entry h.1) in
+    let least : p ≤ k - 1 = place_least test s (k - 1) no_entry within (eq-eqb (get_or s (k - 1) no_entry).number e.number same) in
+    let in_book : p < length s = omega (arith, within) in
+    let first : (get_or s p no_entry).number ≡ e.number = eqb-true (get_or s p no_entry).number e.number (passes_at_first test s no_entry in_book) in
     let number : CustomsEntry → ℕ = λ x. x.number in
     let len = length-map s number in
     ⊎_elim
     (λ (lt : p < k - 1).
-    let long : k - 1 < length (numbers s) = omega (arith, read.0) in
-    absurd (apart p (k - 1) lt long (get_or-map number s p no_entry 0 in_book ∙ (first ∙ (sym same ∙ sym (get_or-map number s (k - 1) no_entry 0 read.0))))))
-    (λ (ge : k - 1 ≤ p). let is : p ≡ k - 1 = omega arith in ap (λ (i : ℕ). slice_get s i) is ∙ h.1) (cases_lt p (k - 1))
+    let long : k - 1 < length (numbers s) = omega (arith, within) in
+    absurd (apart p (k - 1) 0 lt long (get_or-map number s p no_entry 0 in_book ∙ (first ∙ (sym same ∙ sym (get_or-map number s (k - 1) no_entry 0 within))))))
+    (λ (ge : k - 1 ≤ p). let is : p ≡ k - 1 = omega arith in find_at test s ∙ (ap (λ (i : ℕ). slice_get s i) is ∙ h.1)) (cases_lt p (k - 1))
 
 -- ---- what holds at all times
 
-always : (P : List CustomsEntry → Type 0) → P [] → ((s t : List CustomsEntry) → Step s t → P s → P t) → Always P
-always P new kept = (new, λ s notes. fed_keeps notes s)
-  where
-    fed_keeps : (notes : List Note) (s : List CustomsEntry) → P s → P (book_after s notes)
-    fed_keeps [] s h = h
-    fed_keeps (x ∷ xs) s h = fed_keeps xs (entry_next s x) (kept s (entry_next s x) (step s x) h)
+-- what each note keeps, holds at all times
+from_steps : (P : List CustomsEntry → Type 0) → P [] → ((s t : List CustomsEntry) → Step s t → P s → P t) → Always entry_next [] P
+from_steps P new kept = always entry_next P (λ s x. kept s (entry_next s x) (step s x)) [] new
 
 apart_step : (s t : List CustomsEntry) → Step s t → Apart (numbers s) → Apart (numbers t)
 apart_step s t (stays q) h = subst (λ (l : List CustomsEntry). Apart (numbers l)) (sym q) h
 apart_step s t (opens n p r numbered lawful none room q) h = subst (λ (l : List CustomsEntry). Apart (numbers l)) (sym q) (opened_apart s (opened n p r) none h)
 apart_step s t (changes act i lawful within taken q) h =
-    subst (λ (l : List CustomsEntry). Apart (numbers l)) (sym q) (replaced_apart s i (entry_after act (get_or s i no_entry)) within (after_number act (get_or s i no_entry)) h)
+    subst (λ (l : List CustomsEntry). Apart (numbers l)) (sym q) (replaced_apart s i (entry_after act (get_or s i no_entry)) (after_number act (get_or s i no_entry)) h)
 
 pub never_twice : NoNumberTwice
-never_twice = always (λ s. Apart (numbers s)) (λ i j below within same. absurd (omega arith)) apart_step
+never_twice = from_steps (λ s. Apart (numbers s)) (λ i j d below within same. absurd (omega arith)) apart_step
 
 few_step : (s t : List CustomsEntry) → Step s t → length s ≤ entry_places → length t ≤ entry_places
 few_step s t (stays q) h = omega (arith, ap (λ (l : List CustomsEntry). length l) q)
@@ -168,16 +169,16 @@ few_step s t (changes act i lawful within taken q) h =
     omega (arith, ap (λ (l : List CustomsEntry). length l) q, length-set s i (entry_after act (get_or s i no_entry)))
 
 pub never_full : NeverOverFull
-never_full = always (λ s. length s ≤ entry_places) (omega arith) few_step
+never_full = from_steps (λ s. length s ≤ entry_places) (omega arith) few_step
 
 ranged_step : (s t : List CustomsEntry) → Step s t → InRange s → InRange t
 ranged_step s t (stays q) h = subst InRange (sym q) h
-ranged_step s t (opens n p r numbered lawful none room q) h = subst InRange (sym q) (opened_ranged s (opened n p r) h (opened_in_range n p r numbered lawful))
+ranged_step s t (opens n p r numbered lawful none room q) h = subst InRange (sym q) (All-push (λ e. in_range e ≡ true) s (opened n p r) h (opened_in_range n p r numbered lawful))
 ranged_step s t (changes act i lawful within taken q) h =
-    subst InRange (sym q) (replaced_ranged s i (entry_after act (get_or s i no_entry)) within h (after_ranged act (get_or s i no_entry) lawful (h i within)))
+    subst InRange (sym q) (All-set (λ e. in_range e ≡ true) s i (entry_after act (get_or s i no_entry)) (after_ranged act (get_or s i no_entry) lawful (h i no_entry within)) h)
 
 pub always_in_range : FiguresStayInRange
-always_in_range = always InRange (λ k h. absurd (omega arith)) ranged_step
+always_in_range = from_steps InRange (λ k d h. absurd (omega arith)) ranged_step
 
 -- ---- duties
 
@@ -223,4 +224,4 @@ due_step s t (changes act i lawful within taken q) h =
 
 pub always_due : DutiesAreDue
 always_due =
-    always DutiesDue (λ k e d stands closed. let at = at_nth k [] e stands in let z : ◌≡◌ {A = ℕ} 0 1 = cc in absurd (omega arith)) due_step
+    from_steps DutiesDue (λ k e d stands closed. let at = at_nth k [] e stands in let z : ◌≡◌ {A = ℕ} 0 1 = cc in absurd (omega arith)) due_step

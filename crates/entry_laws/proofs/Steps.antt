@@ -1,51 +1,37 @@
 -- What one note can do to a book of entries: nothing, an opening, or a change of one open entry. Assumes nothing.
-use Rattle.std.proofs.Common.{◌≡◌, ℕ, ◌<◌, ◌≤◌, Bool, true, false, cond, ◌&&◌, eqb, ltb, List, [], ◌∷◌, ◌++◌, length, get_or, set, Some, None, Option, sym, refl, ap, ◌∙◌, ⊎_elim, arith}
-use Rattle.std.proofs.lemmas.Bool.{cases_lt, cases_Bool, cond-true, cond-false, cond_both, and_parts, and_from, ltb-true}
+use Rattle.std.proofs.Common.{◌≡◌, ℕ, ◌<◌, ◌≤◌, Bool, true, false, cond, ltb, List, [], ◌∷◌, ◌++◌, length, get_or, set, Some, None, Option, refl, ap, ◌∙◌, ⊎_elim, arith}
+use Rattle.std.proofs.lemmas.Bool.{cases_lt, cases_Bool, cond-true, cond-false, ltb-true}
 use Rattle.protocol.specs.declared.note.Note.{Note}
 use Rattle.entries.specs.Limits.{entry_places}
-use Rattle.books.specs.Places.{place_where}
+use Rattle.std.specs.List.{position_or_len}
 use Rattle.books.specs.Limits.{is_number}
-use Rattle.entries.specs.EntryBook.{has_number, opened, act_of, entry_act, lawful_act, is_amount, is_rate, act_verdict, asked_next, entry_after, entry_next, known_verdict, is_taken, no_entry}
+use Rattle.entries.specs.EntryBook.{has_number, opened, act_of, entry_act, lawful_act, is_amount, act_verdict, asked_next, entry_after, entry_next, known_verdict, is_taken, no_entry}
 use Rattle.entries.specs.declared.customs_entry.CustomsEntry.{CustomsEntry}
 use Rattle.entries.specs.declared.entry_act.EntryAct.{EntryAct}
 use Rattle.entries.specs.declared.entry_act.EntryAct.TheVariants.{Open, Freight, Insurance, Close}
 use Rattle.entries.specs.declared.entry_verdict.EntryVerdict.TheVariants.{Taken, NoPlace}
-use Rattle.books.proofs.Places.{place_bound}
+use Rattle.books.proofs.Searches.{place_bound}
 use Rattle.entries.proofs.Entries.{known_after, unknown_after}
 
 -- t is what a note makes of s
 pub data Step (s t : List CustomsEntry) : Type 0 where
   stays : t ≡ s → Step s t
-  opens : (n p r : ℕ) → is_number n ≡ true → lawful_act (Open p r) ≡ true → place_where (has_number n) s ≡ length s → length s < entry_places → t ≡ s ++ (opened n p r ∷ []) → Step s t
+  opens : (n p r : ℕ) → is_number n ≡ true → lawful_act (Open p r) ≡ true → position_or_len (has_number n) s ≡ length s → length s < entry_places → t ≡ s ++ (opened n p r ∷ []) → Step s t
   changes : (act : EntryAct) (i : ℕ) → lawful_act act ≡ true → i < length s → is_taken (known_verdict act (get_or s i no_entry)) ≡ true → t ≡ set s i (entry_after act (get_or s i no_entry)) → Step s t
 
 -- what a note asks has its figures in range
-module _ (a b c d : ℕ) where
-  abbrev Lawful : Option EntryAct → Type 0
-  Lawful o = (act : EntryAct) → o ≡ Some act → lawful_act act ≡ true
-
-  one : (act : EntryAct) → lawful_act act ≡ true → Lawful (Some act)
-  one act h other e = let same : act ≡ other = cc in ap lawful_act (sym same) ∙ h
-
-  none : Lawful None
-  none act e = let z : ◌≡◌ {A = ℕ} 0 1 = cc in absurd (omega arith)
-
-  figures_lawful : is_amount c ≡ true → Lawful (act_of a c d)
-  figures_lawful amount =
-      cond_both (eqb a 1 && is_rate d) _ _ Lawful (λ t. one (Open c d) (and_from (is_amount c) (is_rate d) amount (and_parts (eqb a 1) (is_rate d) t).1))
-      (λ _. cond_both (eqb a 2 && eqb d 0) _ _ Lawful (λ _. one (Freight c) amount)
-      (λ _. cond_both (eqb a 3 && eqb d 0) _ _ Lawful (λ _. one (Insurance c) amount)
-      (λ _. cond_both (eqb a 4 && (eqb c 0 && eqb d 0)) _ _ Lawful (λ _. one Close refl) (λ _. none))))
+figures_lawful : (a c d : ℕ) (act : EntryAct) → is_amount c ≡ true → act_of a c d ≡ Some act → lawful_act act ≡ true
+figures_lawful a c d (Open p r) amount asks = grind arith
+figures_lawful a c d (Freight f) amount asks = grind arith
+figures_lawful a c d (Insurance i) amount asks = grind arith
+figures_lawful a c d Close amount asks = refl
 
 pub asked_lawful : (x : Note) (act : EntryAct) → entry_act x ≡ Some act → (is_number x.b ≡ true) × (lawful_act act ≡ true)
-asked_lawful x act =
-    cond_both (is_number x.b && is_amount x.c) (act_of x.a x.c x.d) None (λ (o : Option EntryAct). o ≡ Some act → (is_number x.b ≡ true) × (lawful_act act ≡ true))
-    (λ t e. let both = and_parts (is_number x.b) (is_amount x.c) t in (both.0, figures_lawful x.a x.b x.c x.d both.1 act e))
-    (λ t e. let z : ◌≡◌ {A = ℕ} 0 1 = cc in absurd (omega arith))
+asked_lawful x act asks = (grind arith, figures_lawful x.a x.c x.d act (grind arith) (grind arith))
 
 module _ (s : List CustomsEntry) (x : Note) where
   abbrev found : ℕ
-  found = place_where (has_number x.b) s
+  found = position_or_len (has_number x.b) s
 
   known_step : (act : EntryAct) → lawful_act act ≡ true → entry_act x ≡ Some act → found < length s → Step s (entry_next s x)
   known_step act lawful asks within =

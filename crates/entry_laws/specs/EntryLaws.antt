@@ -4,7 +4,7 @@ use Rattle.std.specs.Option.{unwrap_or}
 use Rattle.protocol.specs.declared.note.Note.{Note}
 use Rattle.entries.specs.Limits.{entry_places, whole_rate}
 use Rattle.books.specs.Places.{at_place, Apart}
-use Rattle.books.specs.Feeding.{fed}
+use Rattle.books.specs.Feeding.{fed, Always}
 use Rattle.entries.specs.EntryBook.{numbers, entry_of, entry_next, InRange}
 use Rattle.entries.specs.declared.customs_entry.CustomsEntry.{CustomsEntry}
 
@@ -50,12 +50,8 @@ EntriesAreFound = (s : List CustomsEntry) (k : ℕ) (e : CustomsEntry) → Apart
 
 -- ---- what holds of a book at all times
 
--- it holds of the new book, and notes do not end it
-abbrev pub Always : (List CustomsEntry → Type 0) → Type 0
-Always P = P [] × ((s : List CustomsEntry) (notes : List Note) → P s → P (book_after s notes))
-
 abbrev pub NoNumberTwice : Type 0
-NoNumberTwice = Always (λ s. Apart (numbers s))
+NoNumberTwice = Always entry_next [] (λ s. Apart (numbers s))
 
 -- freight f is there, and the duty is the rate's part of the whole value, less than one cent being dropped
 pub record Due (e : CustomsEntry) (d : ℕ) : Type 0 where
@@ -68,10 +64,10 @@ abbrev pub DutiesDue : List CustomsEntry → Type 0
 DutiesDue s = (k : ℕ) (e : CustomsEntry) (d : ℕ) → Stands k e s → e.duty ≡ Some d → Due e d
 
 abbrev pub DutiesAreDue : Type 0
-DutiesAreDue = Always DutiesDue
+DutiesAreDue = Always entry_next [] DutiesDue
 
 abbrev pub NeverOverFull : Type 0
-NeverOverFull = Always (λ s. length s ≤ entry_places)
+NeverOverFull = Always entry_next [] (λ s. length s ≤ entry_places)
 
 abbrev pub FiguresStayInRange : Type 0
-FiguresStayInRange = Always InRange
+FiguresStayInRange = Always entry_next [] InRange

@@ -1,9 +1,9 @@
 -- The journal of a station: its end, which ends match it, and its newest view. Assumes nothing.
-use Rattle.std.specs.Prelude.{ℕ, ◌-◌, Bool, cond, ◌&&◌, ◌||◌, List, [], ◌∷◌, map, length, None, Option, ◌==◌, nat_le, nat_lt, slice_index}
-use Rattle.std.specs.List.{slice_get}
+use Rattle.std.specs.Prelude.{ℕ, Bool, ◌&&◌, ◌||◌, List, [], ◌∷◌, map, length, Option, ◌==◌, nat_le, nat_lt, slice_index}
 use Rattle.protocol.specs.declared.entry.Body.{Body}
 use Rattle.protocol.specs.declared.entry.Body.TheVariants as body
 use Rattle.protocol.specs.declared.entry.Entry.{Entry}
+use Rattle.books.specs.Places.{at_place}
 
 -- the turn of the entry at a place, counted from 1; 0 at place 0 and past the end
 abbrev pub turn_at : List Entry → ℕ → ℕ
@@ -36,7 +36,7 @@ view_after v (body.View mask) = mask
 
 -- the entry at a place, counted from 1; none outside the journal
 abbrev pub entry_at : List Entry → ℕ → Option Entry
-entry_at j p = cond (nat_lt 0 p) (slice_get j (p - 1)) None
+entry_at j p = at_place p j
 
 -- the last view of a journal, or the whole roll
 abbrev pub newest_view : ℕ → List Entry → ℕ

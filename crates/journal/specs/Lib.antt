@@ -2,3 +2,4 @@ pub mod Journal
 pub mod Peers
 pub mod Core
 pub mod Settle
+pub mod Members

@@ -1,6 +1,5 @@
 // The table of what a station keeps of the others.
-ghost use Rattle.std.specs.Prelude.{◌≡◌, ◌<◌, ◌≤◌};
-ghost use Rattle.protocol.specs.Limits.{max_stations};
+ghost use Rattle.std.specs.Prelude.{◌≡◌, ◌≤◌};
 ghost use Rattle.journal.specs.Peers.{raised, least_known, lesser, heard_one, heard_all, wished, unwished, unmarked};
 
 use protocol::entry::End;
@@ -19,57 +18,62 @@ pub struct Peer {
     pub wish: Option<End>,
 }
 
-// Makes a station's known place at least k.
+// Makes a station's known place at least k. By index: no clause says what a table is after a write through `get_mut`.
 pub fn raise(peers: &mut [Peer; PEERS], s: u8, k: u16)
-    requires { s < max_stations }
     ensures { peers.new ≡ raised s k peers.old }
 {
-    let i = s as usize;
-    peers[i].known = peers[i].known.max(k);
+    let at = usize::from(s);
+    if at < PEERS {
+        peers[at].known = peers[at].known.max(k);
+    }
 }
 
 // Sets one heard mark.
 pub fn hear(peers: &mut [Peer; PEERS], s: u8)
-    requires { s < max_stations }
     ensures { peers.new ≡ heard_one s peers.old }
 {
-    peers[s as usize].heard = true;
+    let at = usize::from(s);
+    if at < PEERS {
+        peers[at].heard = true;
+    }
 }
 
 // Sets every heard mark.
 pub fn hear_all(peers: &mut [Peer; PEERS])
     ensures { peers.new ≡ heard_all peers.old }
 {
-    for p in peers.iter_mut() {
-        p.heard = true;
-    }
+    *peers = peers.map(|peer| Peer {
+        heard: true,
+        ..peer
+    });
 }
 
 // Keeps a wish, in the place of an older one.
 pub fn keep_wish(peers: &mut [Peer; PEERS], s: u8, end: End)
-    requires { s < max_stations }
     ensures { peers.new ≡ wished s end peers.old }
 {
-    peers[s as usize].wish = Some(end);
+    let at = usize::from(s);
+    if at < PEERS {
+        peers[at].wish = Some(end);
+    }
 }
 
 // Clears every wish.
 pub fn clear_wishes(peers: &mut [Peer; PEERS])
     ensures { peers.new ≡ unwished peers.old }
 {
-    for p in peers.iter_mut() {
-        p.wish = None;
-    }
+    *peers = peers.map(|peer| Peer { wish: None, ..peer });
 }
 
 // Clears every heard mark and every wish.
 pub fn clear_marks(peers: &mut [Peer; PEERS])
     ensures { peers.new ≡ unmarked peers.old }
 {
-    for p in peers.iter_mut() {
-        p.heard = false;
-        p.wish = None;
-    }
+    *peers = peers.map(|peer| Peer {
+        heard: false,
+        wish: None,
+        ..peer
+    });
 }
 
 // The lesser of a place and the known place of station s, if s is another member of the view.
@@ -90,8 +94,8 @@ pub fn least_of(peers: &[Peer; PEERS], me: u8, view: u8, length: u16) -> u16
     ensures bound { result ≤ length }
 {
     let mut least = length;
-    for s in 0..MAX_STATIONS {
-        least = lesser_of(me, view, s, &peers[s as usize], least);
+    for (s, p) in peers.iter().enumerate() {
+        least = lesser_of(me, view, s as u8, p, least);
     }
     least
 }

@@ -1,18 +1,16 @@
 // What a journal says: the turn at a place, its end, which ends match it, and its newest view.
 ghost use Rattle.std.specs.Prelude.{◌≡◌, ◌≤◌, length};
 ghost use Rattle.protocol.specs.Limits.{journal_places};
-ghost use Rattle.journal.specs.Journal.{turn_at, last_turn, entry_at, end_of, matches, view_after, newest_view};
+ghost use Rattle.journal.specs.Journal.{turn_at, last_turn, entry_at, end_of, matches, newest_view};
 
+use books::search::at_place;
 use protocol::entry::{Body, End, Entry};
 
 // The turn of the entry at a place, counted from 1; 0 at place 0 and past the end.
 pub fn turn_at(journal: &[Entry], place: usize) -> u32
     ensures { result ≡ turn_at journal.now place }
 {
-    if place == 0 || place > journal.len() {
-        return 0;
-    }
-    journal[place - 1].turn
+    entry_at(journal, place).map_or(0, |e| e.turn)
 }
 
 // The turn of the last entry, 0 when there is none.
@@ -26,10 +24,7 @@ pub fn last_turn(journal: &[Entry]) -> u32
 pub fn entry_at(journal: &[Entry], place: usize) -> Option<Entry>
     ensures { result ≡ entry_at journal.now place }
 {
-    if place == 0 || place > journal.len() {
-        return None;
-    }
-    Some(journal[place - 1])
+    at_place(journal, place)
 }
 
 // The last place of a journal and that entry's turn; (0, 0) when it is empty.
@@ -48,23 +43,14 @@ pub fn end_matches(journal: &[Entry], end: End) -> bool
     place as usize <= journal.len() && turn_at(journal, place as usize) == turn
 }
 
-// The view after an entry, from the one before it.
-fn view_after(view: u8, body: &Body) -> u8
-    ensures { result ≡ view_after view body.now }
-{
-    match body {
-        Body::Note(_) => view,
-        Body::View(mask) => *mask,
-    }
-}
-
 // The members that the last view of a journal names, or the whole roll.
 pub fn view_of(journal: &[Entry], whole: u8) -> u8
     ensures { result ≡ newest_view whole journal.now }
 {
-    let mut view = whole;
-    for e in journal {
-        view = view_after(view, &e.body);
+    for e in journal.iter().rev() {
+        if let Body::View(mask) = e.body {
+            return mask;
+        }
     }
-    view
+    whole
 }

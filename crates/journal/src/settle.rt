@@ -1,26 +1,25 @@
-// Working the firm count out again, and giving newly firm notes to the book.
+// What a member's journal says of the others, and working its firm count out again.
 ghost use Rattle.std.specs.Prelude.{◌≡◌, ◌≤◌, length};
-ghost use Rattle.protocol.specs.Limits.{journal_places};
 ghost use Rattle.journal.specs.Core.{core_of};
-ghost use Rattle.journal.specs.Settle.{feed, fed, view, settle, newly_firm};
+ghost use Rattle.journal.specs.Journal.{end_of};
+ghost use Rattle.journal.specs.Settle.{feed, fed, view, known_to_all, settle};
+ghost use Rattle.journal.specs.Members.{member_core, Followed};
 
+use crate::member::Member;
 use crate::peer::least_of;
-use crate::reading::view_of;
+use crate::reading::{end_of, view_of};
 use crate::status::Status;
 use crate::store::Journal;
 use books::book::Book;
-use protocol::entry::{Body, Entry};
+use protocol::entry::{Body, End, Entry};
 use vote::mask::whole;
 
 // Gives the note of an entry, if it has one, to a book.
 fn feed_body<B: Book>(book: &mut B, body: &Body)
     ensures { B.means book.new ≡ feed B.next (B.means book.old) body.now }
 {
-    match body {
-        Body::Note(x) => {
-            let _ = book.give(*x);
-        }
-        Body::View(_) => {}
+    if let Body::Note(note) = body {
+        let _ = book.give(*note);
     }
 }
 
@@ -40,39 +39,42 @@ impl Status {
     {
         view_of(journal, whole(self.roll))
     }
+}
 
-    // Works the firm count out again.
-    fn raise_firm(&mut self, journal: &[Entry])
-        requires few { length journal.now ≤ journal_places }
-        requires settled { self.old.firm ≤ length journal.now }
-        ensures settled { self.new.firm ≤ length journal.now }
-        ensures station { core_of self.new journal.now ≡ settle (core_of self.old journal.now) }
+impl<J: Journal> Member<J> {
+    // The last place of its journal and that entry's turn.
+    pub fn end(&self) -> End
+        ensures { result ≡ end_of (member_core self.now).journal }
     {
-        let view = self.newest_view(journal);
-        let least = least_of(&self.peers, self.me, view, journal.len() as u16);
-        self.firm = self.firm.max(least);
+        end_of(self.journal.as_slice())
+    }
+
+    // The members of its newest view.
+    pub fn newest_view(&self) -> u8
+        ensures { result ≡ view (member_core self.now) }
+    {
+        self.status.newest_view(self.journal.as_slice())
+    }
+
+    // The smallest of its length and the known places of the other members of its newest view.
+    fn known_to_all(&self) -> u16
+        ensures value { result ≡ known_to_all (member_core self.now) }
+        ensures bound { result ≤ length (J.entries self.now.journal) }
+    {
+        let status = &self.status;
+        let length = self.journal.as_slice().len() as u16;
+        least_of(&status.peers, status.me, self.newest_view(), length)
     }
 
     // Works the firm count out again, and gives newly firm notes to the book.
-    fn settle_slice<B: Book>(&mut self, journal: &[Entry], book: &mut B)
-        requires few { length journal.now ≤ journal_places }
-        requires settled { self.old.firm ≤ length journal.now }
-        ensures settled { self.new.firm ≤ length journal.now }
-        ensures station { core_of self.new journal.now ≡ settle (core_of self.old journal.now) }
-        ensures book { B.means book.new ≡ fed B.next (B.means book.old) (newly_firm self.old.firm (core_of self.new journal.now)) }
+    pub fn settle<B: Book>(&mut self, book: &mut B)
+        ensures station { member_core self.new ≡ settle (member_core self.old) }
+        ensures journal { self.new.journal ≡ self.old.journal }
+        ensures book { Followed B.means B.next self.old self.new book.old book.new }
     {
-        let before = self.firm as usize;
-        self.raise_firm(journal);
-        feed_all(book, &journal[before..self.firm as usize]);
-    }
-
-    // The same over any journal.
-    pub fn settle_now<J: Journal, B: Book>(&mut self, journal: &J, book: &mut B)
-        requires { self.old.firm ≤ length (J.entries journal.now) }
-        ensures settled { self.new.firm ≤ length (J.entries journal.now) }
-        ensures station { core_of self.new (J.entries journal.now) ≡ settle (core_of self.old (J.entries journal.now)) }
-        ensures book { B.means book.new ≡ fed B.next (B.means book.old) (newly_firm self.old.firm (core_of self.new (J.entries journal.now))) }
-    {
-        self.settle_slice(journal.as_slice(), book);
+        let before = usize::from(self.status.firm);
+        self.status.firm = self.status.firm.max(self.known_to_all());
+        let firm = usize::from(self.status.firm);
+        feed_all(book, &self.journal.as_slice()[before..firm]);
     }
 }

@@ -28,20 +28,12 @@ impl State {
     pub fn is_running(self) -> bool
         ensures { result ≡ is_running self }
     {
-        match self {
-            State::Running => true,
-            State::Joining => false,
-            State::Out(_) => false,
-        }
+        matches!(self, State::Running)
     }
 
     pub fn is_out(self) -> bool
         ensures { result ≡ is_out self }
     {
-        match self {
-            State::Running => false,
-            State::Joining => false,
-            State::Out(_) => true,
-        }
+        matches!(self, State::Out(_))
     }
 }

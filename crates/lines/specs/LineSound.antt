@@ -1,7 +1,7 @@
 -- The lines of a wire that keeps a queue for each station are sound. Assumes nothing.
-use Rattle.std.specs.Prelude.{◌≡◌, ℕ, ◌*◌, ◌<◌, ◌≤◌, true, false, [], length, drop, vec_items, nat_lt, slice_index_or, refl}
-use Rattle.std.proofs.Common.{⊎_elim, arith, length-take}
-use Rattle.std.proofs.lemmas.Bool.{cases_lt, lt-ltb, le-ltb}
+use Rattle.std.specs.Prelude.{◌≡◌, ℕ, ◌+◌, ◌-◌, ◌*◌, ◌≤◌, [], length, drop, vec_items, slice_index_or}
+use Rattle.std.proofs.Common.{arith, length-take}
+use Rattle.std.proofs.lemmas.Bool.Decides.{nat_tests}
 use Rattle.protocol.specs.Limits.{line_places}
 use Rattle.queue.specs.Contents.{vacant}
 use Rattle.queue.proofs.Turns.{contents_length}
@@ -13,14 +13,12 @@ pub line_sound : {T : Type 0} (w : LineWire T) → Sound (line_lines w)
 line_sound w = record { some = w.some; few = w.few; short = short; off = off }
   where
     short : (s : ℕ) → length ((line_lines w).at s) ≤ line_places
-    short s = ⊎_elim
-        (λ (lt : s < w.roll).
-        let b : nat_lt s w.roll ≡ true = lt-ltb s w.roll lt in
-        let l = contents_length (slice_index_or w.queues s vacant) (places_of (vec_items w.places) s) in
-        let m = length-take line_places (drop (s * line_places) (vec_items w.places)) in
-        rw b (omega arith))
-        (λ (ge : w.roll ≤ s). let b : nat_lt s w.roll ≡ false = le-ltb s w.roll ge in rw b (omega arith))
-        (cases_lt s w.roll)
+    short s = grind (
+      arith,
+      nat_tests,
+      contents_length (slice_index_or w.queues s vacant) (places_of (vec_items w.places) s),
+      length-take (s * line_places + line_places - s * line_places) (drop (s * line_places) (vec_items w.places)),
+    )
 
     off : (s : ℕ) → w.roll ≤ s → (line_lines w).at s ≡ []
-    off s h = let b : nat_lt s w.roll ≡ false = le-ltb s w.roll h in rw b refl
+    off s h = grind (arith, nat_tests)

@@ -1,4 +1,4 @@
-pub mod Everywhere
+pub mod Searches
 pub mod Removals
 pub mod Room
 pub mod Receivers

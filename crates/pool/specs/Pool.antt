@@ -1,5 +1,6 @@
 -- The lines that a pool of frames stands for. Assumes nothing.
 use Rattle.std.specs.Prelude.{◌≡◌, ℕ, ◌^◌, ◌<◌, ◌≤◌, Bool, true, cond, not, ◌&&◌, List, [], ◌∷◌, length, take, ◌==◌, nat_lt, slice_index_or}
+use Rattle.std.specs.List.{All}
 use Rattle.protocol.specs.Limits.{line_places}
 use Rattle.vote.specs.Mask.{has}
 use Rattle.pool.specs.declared.place.Place.{Place}
@@ -17,10 +18,10 @@ pub record First {T : Type 0} (s : ℕ) (ps : List (Place T)) (i : ℕ) : Type 0
 
 -- what holds of a pool: each place waits for a station, and for none that is not on the roll, and no line has more than 32 frames
 abbrev pub Busy : {T : Type 0} → List (Place T) → Type 0
-Busy {T} ps = (k : ℕ) (d : Place T) → k < length ps → 0 < (slice_index_or ps k d).waits
+Busy ps = All (λ p. 0 < p.waits) ps
 
 abbrev pub Listed : {T : Type 0} → ℕ → List (Place T) → Type 0
-Listed {T} roll ps = (k : ℕ) (d : Place T) → k < length ps → (slice_index_or ps k d).waits < 2 ^ roll
+Listed roll ps = All (λ p. p.waits < 2 ^ roll) ps
 
 abbrev pub Short : {T : Type 0} → List (Place T) → Type 0
 Short ps = (s : ℕ) → length (line_of s ps) ≤ line_places

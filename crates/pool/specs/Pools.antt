@@ -1,4 +1,4 @@
--- The lines of a pool that gains or loses a frame. Assumes nothing.
+-- The lines of a pool that is put together of two, looked at one place further, or read for a station that is not on the roll. Assumes nothing.
 use Rattle.std.specs.Prelude.{◌≡◌, ℕ, suc, ◌+◌, ◌<◌, ◌≤◌, Bool, true, false, cond, List, [], ◌∷◌, ◌++◌, length, take, slice_index_or, refl}
 use Rattle.std.proofs.Common.{sym, ap, ◌∙◌, arith}
 use Rattle.std.proofs.lemmas.List.{take_more, length-append, append-nil}
@@ -14,9 +14,7 @@ module _ {T : Type 0} where
 
   pub line_append : (s : ℕ) (ps qs : List (Place T)) → line_of s (ps ++ qs) ≡ line_of s ps ++ line_of s qs
   line_append s [] qs = refl
-  line_append s (p ∷ ps) qs =
-      ap (λ (l : List T). cond (has p.waits s) (p.frame ∷ l) l) (line_append s ps qs)
-      ∙ cond_append (has p.waits s) p.frame (line_of s ps) (line_of s qs)
+  line_append s (p ∷ ps) qs = grind (arith, line_append s ps qs)
 
   -- the frame of p if it waits for s
   abbrev pub one_of : ℕ → Place T → List T

@@ -7,7 +7,6 @@ use crate::place::Place;
 
 pub mod calls;
 mod places;
-pub mod size;
 
 #[derive(Drop)]
 pub struct PoolWire<T> {

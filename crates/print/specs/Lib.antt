@@ -1,3 +1,1 @@
-pub mod Overlay
-pub mod Pieces
 pub mod PrintLines

@@ -1,5 +1,8 @@
--- The lines that are printed, without the byte 10 that ends each. Assumes nothing.
-use Rattle.std.specs.Prelude.{ℕ, List, ◌++◌, Some, None, codes, decimal, Option}
+-- The lines that are printed, without the byte 10 that ends each, and where they go. Assumes nothing.
+use Rattle.std.specs.Prelude.{◌≡◌, ℕ, ◌<◌, ◌≤◌, List, [], ◌∷◌, ◌++◌, length, drop, Some, None, Ok, Err, codes, decimal, Option, Result}
+use Rattle.std.specs.declared.alloc.AllocError.{AllocError}
+use Rattle.protocol.specs.declared.refusal.Refusal.{Refusal}
+use Rattle.protocol.specs.declared.refusal.Refusal.TheVariants.{BufferTooShort}
 use Rattle.protocol.specs.declared.entry.Body.{Body}
 use Rattle.protocol.specs.declared.entry.Body.TheVariants.{Note, View}
 use Rattle.protocol.specs.declared.entry.Entry.{Entry}
@@ -60,3 +63,17 @@ line_bytes (Refused line number) = refused_line line number
 line_bytes (Station station state firm len) = station_line station state firm len
 line_bytes (Journal entry) = entry_line entry
 line_bytes (Book entry) = book_line entry
+
+-- room for each of these lines and the byte that ends it
+abbrev pub room : ℕ
+room = 128
+
+-- a line is written at the front of a buffer, the rest of which stays; or it is refused where the buffer is shorter, which stays as it was
+abbrev pub Put : List ℕ → List ℕ → List ℕ → Result ℕ Refusal → Type 0
+Put line before after (Ok n) = (length line ≤ length before) × (n ≡ length line) × (after ≡ line ++ drop (length line) before)
+Put line before after (Err e) = (length before < length line) × (e ≡ BufferTooShort) × (after ≡ before)
+
+-- a line and byte 10, which ends it, are added to a text; or nothing is, where memory is wanting
+abbrev pub Added : List ℕ → List ℕ → List ℕ → Result (Unit {0}) AllocError → Type 0
+Added line before after (Ok _) = after ≡ before ++ (line ++ (10 ∷ []))
+Added line before after (Err _) = after ≡ before

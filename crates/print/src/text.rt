@@ -1,56 +1,43 @@
-// A line added to a text.
-ghost use Rattle.std.specs.Prelude.{◌≡◌, ◌++◌, is_ok, if◌then◌else◌, decimal};
-ghost use Rattle.print.specs.Pieces.{piece_bytes, spelled, Added, Grown};
+// The text of a line, put together without memory from the heap.
+ghost use Rattle.std.specs.Prelude.{◌≡◌, ◌+◌, ◌≤◌, ◌++◌, length};
+ghost use Rattle.print.specs.PrintLines.{amount_text, room};
 
-use crate::digits::put_number;
-use crate::piece::Piece;
-use std::alloc::AllocError;
+use arrayvec::ArrayString;
+use itoa::{Buffer, Integer};
 
-// the most digits of a number
-const MAX_DIGITS: usize = 20;
+// bytes for the longest line and the one that ends it
+const ROOM: usize = 128;
 
-// Adds a number's digits.
-fn add_number(n: u64, text: &mut Vec<u8>) -> Result<(), AllocError>
-    ensures { text.new.items ≡ (if is_ok result then text.old.items ++ decimal n else text.old.items) }
+// A line so far.
+pub(crate) type Text = ArrayString<ROOM>;
+
+// Adds a word under its label.
+pub(crate) fn add_word(text: &mut Text, label: &str, word: &str)
+    requires { length text.old.bytes + length label.now + length word.now ≤ room }
+    ensures { text.new.bytes ≡ text.old.bytes ++ (label.now ++ word.now) }
 {
-    let mut digits = [0; MAX_DIGITS];
-    let count = put_number(n, 0, &mut digits);
-    text.extend_from_slice(&digits[0..count])
+    text.push_str(label);
+    text.push_str(word);
 }
 
-// Adds a piece.
-fn add_piece(piece: Piece<'_>, text: &mut Vec<u8>) -> Result<(), AllocError>
-    ensures { text.new.items ≡ (if is_ok result then text.old.items ++ piece_bytes piece.entry else text.old.items) }
+// Adds a number under its label.
+pub(crate) fn add_number<I: Integer>(text: &mut Text, label: &str, n: I)
+    requires { length text.old.bytes + length label.now + I.MAX_STR_LEN ≤ room }
+    ensures value { text.new.bytes ≡ text.old.bytes ++ (label.now ++ I.text n) }
+    ensures len { length text.new.bytes ≤ length text.old.bytes + length label.now + I.MAX_STR_LEN }
 {
-    match piece {
-        Piece::Text(bytes) => text.extend_from_slice(bytes),
-        Piece::Number(n) => add_number(n, text),
-    }
+    let mut digits = Buffer::new();
+    add_word(text, label, digits.format(n));
 }
 
-// Adds pieces and the byte that ends a line. Where memory is wanting, some of them are added.
-fn add_pieces(pieces: &[Piece<'_>], text: &mut Vec<u8>) -> Result<(), AllocError>
-    ensures { Grown (spelled pieces.now) text.old.items text.new.items result }
+// Adds an amount, which may be absent, under its label.
+pub(crate) fn add_amount(text: &mut Text, label: &str, cents: Option<u32>)
+    requires { length text.old.bytes + length label.now + 10 ≤ room }
+    ensures value { text.new.bytes ≡ text.old.bytes ++ (label.now ++ amount_text cents) }
+    ensures len { length text.new.bytes ≤ length text.old.bytes + length label.now + 10 }
 {
-    for piece in pieces {
-        match add_piece(*piece, text) {
-            Ok(()) => {}
-            Err(e) => {
-                return Err(e);
-            }
-        }
+    match cents {
+        Some(n) => add_number(text, label, n),
+        None => add_word(text, label, "none"),
     }
-    text.extend_from_slice(b"\n")
-}
-
-// Adds a line and the byte that ends it, or nothing where memory is wanting.
-pub(crate) fn add(pieces: &[Piece<'_>], text: &mut Vec<u8>) -> Result<(), AllocError>
-    ensures { Added (spelled pieces.now) text.old.items text.new.items result }
-{
-    let before = text.len();
-    let added = add_pieces(pieces, text);
-    if added.is_err() {
-        text.truncate(before);
-    }
-    added
 }

@@ -1,5 +1,5 @@
 -- Every limit of the rules, named once. Assumes nothing.
-use Rattle.std.specs.Prelude.{Bool, ◌&&◌, ℕ, leb}
+use Rattle.std.specs.Prelude.{Bool, ◌&&◌, ℕ, nat_le}
 
 -- the most stations of a roll
 abbrev pub max_stations : ℕ
@@ -7,7 +7,7 @@ max_stations = 8
 
 -- a roll has 1 to 8 stations
 abbrev pub roll_fits : ℕ → Bool
-roll_fits n = leb 1 n && leb n max_stations
+roll_fits n = nat_le 1 n && nat_le n max_stations
 
 -- the frames that a line has room for
 abbrev pub line_places : ℕ

@@ -16,5 +16,5 @@ pub struct Entry {
     pub body: Body,
 }
 
-// The end of a journal: its last place and that entry's turn, (0, 0) when it is empty.
+// The end of a journal: its last place and that entry's turn, (0, 0) when it is empty. A pair, as the rules speak of it.
 pub type End = (u16, u32);

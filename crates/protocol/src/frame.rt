@@ -23,18 +23,20 @@ pub enum Frame {
 }
 
 impl Frame {
+    // What fills the places of a wire before any frame is posted.
+    pub const IDLE: Frame = Frame::Heartbeat {
+        sender: 0,
+        end: (0, 0),
+    };
+
     // The station that posted the frame.
     pub fn sender(&self) -> u8
         ensures { result ≡ sender_of self.now }
     {
         match self {
-            Frame::Entry {
-                sender,
-                entry: _,
-                before: _,
-            } => *sender,
-            Frame::Heartbeat { sender, end: _ } => *sender,
-            Frame::Join { sender, end: _ } => *sender,
+            Frame::Entry { sender, .. }
+            | Frame::Heartbeat { sender, .. }
+            | Frame::Join { sender, .. } => *sender,
         }
     }
 }

@@ -4,6 +4,8 @@
 pub const MAX_STATIONS: u8 = 8;
 // the frames that a line has room for
 pub const LINE_PLACES: usize = 32;
+// the frames that the lines of any roll have room for
+pub const LINES_PLACES: usize = MAX_STATIONS as usize * LINE_PLACES;
 // the places of a pool that serves all lines
 pub const POOL_PLACES: usize = 256;
 // the entries that a journal has room for

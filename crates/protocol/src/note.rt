@@ -1,5 +1,5 @@
 // What a declarant says: four numbers, which a book reads.
-#[derive(Clone, Copy, PartialEq, Eq, Debug)]
+#[derive(Clone, Copy, Default, PartialEq, Eq, Debug)]
 pub struct Note {
     pub a: u32,
     pub b: u32,

@@ -1,35 +1,40 @@
 // Why a call is refused. A refused call leaves everything as it was.
-ghost use Rattle.std.specs.Prelude.{◌≡◌};
-ghost use Rattle.protocol.specs.Refusals.{number_of};
+ghost use Rattle.std.specs.Prelude.{◌≡◌, Some};
+ghost use Rattle.protocol.specs.Refusals.{number_of, words_of, why_not_made};
+ghost use Rattle.protocol.specs.declared.refusal.MakeError.TheVariants.{Refused, Memory};
 
-#[derive(Clone, Copy, PartialEq, Eq, Debug)]
+use std::alloc::AllocError;
+use std::error::Error;
+use std::fmt;
+
+#[derive(Clone, Copy, PartialEq, Eq, PartialOrd, Ord, Debug)]
 pub enum Refusal {
     // the station is not on the roll
-    NotOnRoll,
+    NotOnRoll = 1,
     // the station is out
-    IsOut,
+    IsOut = 2,
     // the outbox is full
-    OutboxFull,
+    OutboxFull = 3,
     // the turn's number is past the last one, or is not one that the station may open
-    WrongTurn,
+    WrongTurn = 4,
     // no frame waits in the line
-    LineEmpty,
+    LineEmpty = 5,
     // the station to enter is not out
-    NotOut,
+    NotOut = 6,
     // the roll has not 1 to 8 stations
-    RollSize,
+    RollSize = 7,
     // the memory for a wire has too few places
-    TooFewPlaces,
+    TooFewPlaces = 8,
     // a weight is over 100, or all are 0
-    WeightRange,
+    WeightRange = 9,
     // the line is not one of the script's forms
-    MisshapenLine,
+    MisshapenLine = 10,
     // the first line is a command
-    CommandFirst,
+    CommandFirst = 11,
     // the text is over 16,384 bytes
-    TextTooLong,
+    TextTooLong = 12,
     // the buffer is shorter than the line to print
-    BufferTooShort,
+    BufferTooShort = 13,
 }
 
 impl Refusal {
@@ -37,27 +42,67 @@ impl Refusal {
     pub fn number(self) -> u8
         ensures { result ≡ number_of self }
     {
+        self as u8
+    }
+}
+
+// The refusal in words.
+impl fmt::Display for Refusal {
+    ghost output = { λ refusal. Some (words_of refusal) };
+
+    fn fmt<W: fmt::Write>(&self, f: &mut fmt::Formatter<W>) -> fmt::Result {
         match self {
-            Refusal::NotOnRoll => 1,
-            Refusal::IsOut => 2,
-            Refusal::OutboxFull => 3,
-            Refusal::WrongTurn => 4,
-            Refusal::LineEmpty => 5,
-            Refusal::NotOut => 6,
-            Refusal::RollSize => 7,
-            Refusal::TooFewPlaces => 8,
-            Refusal::WeightRange => 9,
-            Refusal::MisshapenLine => 10,
-            Refusal::CommandFirst => 11,
-            Refusal::TextTooLong => 12,
-            Refusal::BufferTooShort => 13,
+            Refusal::NotOnRoll => write!(f, "the station is not on the roll"),
+            Refusal::IsOut => write!(f, "the station is out"),
+            Refusal::OutboxFull => write!(f, "the outbox is full"),
+            Refusal::WrongTurn => write!(f, "the turn is not one that the station may open"),
+            Refusal::LineEmpty => write!(f, "no frame waits in the line"),
+            Refusal::NotOut => write!(f, "the station to enter is not out"),
+            Refusal::RollSize => write!(f, "the roll has not 1 to 8 stations"),
+            Refusal::TooFewPlaces => write!(f, "the memory for the wire has too few places"),
+            Refusal::WeightRange => write!(f, "a weight is over 100, or all are 0"),
+            Refusal::MisshapenLine => write!(f, "the line is not one of the script's forms"),
+            Refusal::CommandFirst => write!(f, "the first line is a command"),
+            Refusal::TextTooLong => write!(f, "the text is over 16,384 bytes"),
+            Refusal::BufferTooShort => write!(f, "the buffer is shorter than the line"),
         }
     }
 }
+
+impl Error for Refusal {}
 
 // Why a thing that keeps memory was not made: a refusal, or want of memory, which has no number.
 #[derive(Clone, Copy, PartialEq, Eq, Debug)]
 pub enum MakeError {
     Refused(Refusal),
-    Memory,
+    Memory(AllocError),
 }
+
+impl From<Refusal> for MakeError {
+    ghost from_gives = { λ refusal e. e ≡ Refused refusal };
+
+    fn from(refusal: Refusal) -> MakeError {
+        MakeError::Refused(refusal)
+    }
+}
+
+impl From<AllocError> for MakeError {
+    ghost from_gives = { λ error e. e ≡ Memory error };
+
+    fn from(error: AllocError) -> MakeError {
+        MakeError::Memory(error)
+    }
+}
+
+impl fmt::Display for MakeError {
+    ghost output = { λ error. Some (why_not_made error) };
+
+    fn fmt<W: fmt::Write>(&self, f: &mut fmt::Formatter<W>) -> fmt::Result {
+        match self {
+            MakeError::Refused(refusal) => write!(f, "{refusal}"),
+            MakeError::Memory(_) => write!(f, "memory is wanting"),
+        }
+    }
+}
+
+impl Error for MakeError {}

@@ -1,7 +1,8 @@
 // A circular queue over places that the caller lends to each call.
 //
 // The queue itself is two numbers. Which list it holds depends on the places that it is lent: `contents` says so for
-// every queue and every slice, so no pair of the two is inconsistent. The slice's length is the capacity.
+// every queue and every slice, so no pair of the two is inconsistent. The slice's length is the capacity. Pushing answers
+// whether there was room: the item is a copy, and there is no other reason.
 #![tactic(auto)]
 
 ghost use Rattle.std.specs.Prelude.{◌≡◌, ◌<◌, false, length, is_some, nat_lt};
@@ -85,7 +86,7 @@ impl Queue {
     }
 }
 
-// The place that lies `i` after `first`, going round at the end.
+// The place that lies `i` after `first`, going round at the end. Their sum might not fit, so it is not formed.
 fn place(room: usize, first: usize, i: usize) -> usize
     requires { (first < room) × (i < room) }
     ensures value { result ≡ around room first i }

@@ -1,7 +1,8 @@
 -- What is printed of a script's text. Assumes nothing.
 use Rattle.std.specs.Prelude.{◌≡◌, ℕ, zero, suc, cond, List, [], ◌∷◌, ◌++◌, length, drop, Some, None, Ok, Err, Option, Result, ◌==◌, slice_index}
 use Rattle.std.specs.declared.alloc.AllocError.{AllocError}
-use Rattle.std.specs.List.{slice_get, flat_map}
+use Rattle.std.specs.List.{slice_get, flat_map, filter_map}
+use Rattle.std.specs.Result.{result_ok}
 use Rattle.protocol.specs.Refusals.{number_of}
 use Rattle.protocol.specs.declared.entry.Entry.{Entry}
 use Rattle.protocol.specs.declared.refusal.Refusal.{Refusal}
@@ -30,9 +31,7 @@ answer_text line number = cond (number == 0) [] (ended (refused_line line number
 
 -- the calls among what the lines are
 abbrev pub calls_among : List (Result Call Refusal) → List Call
-calls_among [] = []
-calls_among (Ok c ∷ ls) = c ∷ calls_among ls
-calls_among (Err e ∷ ls) = calls_among ls
+calls_among ls = filter_map result_ok ls
 
 -- what the lines from a number on are answered by, where the ring gave these answers to the calls among them
 abbrev pub answers_text : ℕ → List (Result Call Refusal) → List ℕ → List ℕ

@@ -1,11 +1,15 @@
 // The lines of a script: the calls among them, and the print of those that are refused.
-ghost use Rattle.std.specs.Prelude.{◌≡◌, IfOk, slice_index};
+ghost use Rattle.std.specs.Prelude.{◌≡◌, map, IfOk};
+ghost use Rattle.std.specs.Slice.Iter.{iter_rest};
+ghost use Rattle.runs.specs.Rings.{result_number};
 ghost use Rattle.replay.specs.Print.{answer_text, calls_among, answers_text, Extended};
+ghost use Rattle.replay.specs.Parts.{answer_to, left_after};
 
 use print::line::Line;
 use protocol::refusal::Refusal;
 use runs::call::Call;
 use std::alloc::{AllocError, Global};
+use std::slice::Iter;
 
 // the number of the line after the roll
 const FIRST_CALL: usize = 2;
@@ -17,49 +21,50 @@ pub(crate) fn calls_among(
 ) -> Result<Vec<Call>, AllocError>
     ensures { IfOk result (λ v. v.items ≡ calls_among lines.now) }
 {
-    let mut calls = Vec::new(heap);
-    for line in lines {
-        let Ok(call) = line else {
-            continue;
-        };
-        calls.push(*call)?;
-    }
-    Ok(calls)
+    lines.iter().filter_map(|line| line.ok()).collect(heap)
 }
 
-// Adds a refused line; an accepted one, which is answered by 0, adds nothing.
-fn append_answer(line: usize, number: u8, text: &mut Vec<u8>) -> Result<(), AllocError>
-    ensures { Extended (answer_text line number) text.old.items text.new.items result }
+// What a line is answered by: its own refusal, or the next of the answers that the ring gave.
+fn answer_to(
+    line: Result<Call, Refusal>,
+    given: &mut Iter<'_, Result<(), Refusal>>,
+) -> Result<(), Refusal>
+    ensures answer { result_number result ≡ answer_to line (map result_number (iter_rest given.old)) }
+    ensures left { map result_number (iter_rest given.new) ≡ left_after line (map result_number (iter_rest given.old)) }
 {
-    if number == 0 {
-        return Ok(());
-    }
-    Line::Refused { line, number }.append(text)
+    line?;
+    given.next().copied().unwrap_or(Ok(()))
 }
 
-// The answer at a place, counted from 0; 0 past the end.
-fn answer_at(given: &[u8], place: usize) -> u8
-    ensures { result ≡ slice_index given.now place }
+// Adds a line that is refused; an accepted one adds nothing.
+fn append_answer(
+    line: usize,
+    answer: Result<(), Refusal>,
+    text: &mut Vec<u8>,
+) -> Result<(), AllocError>
+    ensures { Extended (answer_text line (result_number answer)) text.old.items text.new.items result }
 {
-    if place < given.len() { given[place] } else { 0 }
+    match answer {
+        Ok(()) => Ok(()),
+        Err(refusal) => {
+            let number = refusal.number();
+            Line::Refused { line, number }.append(text)
+        }
+    }
 }
 
 // Adds the refused ones of the lines, of which the ring answered the calls.
 pub(crate) fn append_answers(
     lines: &[Result<Call, Refusal>],
-    given: &[u8],
+    given: &[Result<(), Refusal>],
     text: &mut Vec<u8>,
 ) -> Result<(), AllocError>
-    ensures { Extended (answers_text 2 lines.now given.now) text.old.items text.new.items result }
+    ensures { Extended (answers_text 2 lines.now (map result_number given.now)) text.old.items text.new.items result }
 {
-    let mut calls = 0;
+    let mut given = given.iter();
     for (i, line) in lines.iter().enumerate() {
-        if let Err(refusal) = line {
-            append_answer(FIRST_CALL + i, refusal.number(), text)?;
-            continue;
-        }
-        append_answer(FIRST_CALL + i, answer_at(given, calls), text)?;
-        calls += 1;
+        let answer = answer_to(*line, &mut given);
+        append_answer(FIRST_CALL + i, answer, text)?;
     }
     Ok(())
 }

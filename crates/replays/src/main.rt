@@ -12,17 +12,15 @@ fn agrees(rt: &HostRuntime, number: u32) -> io::Result<bool> {
     let heap = rt.alloc();
     let script = fs::read(rt, format!(in heap; "{number}.script")?)?;
     let expected = fs::read(rt, format!(in heap; "{number}.print")?)?;
-    let print = replay(heap, script.as_slice())?;
-    Ok(print.as_slice() == expected.as_slice())
+    Ok(replay(heap, &script)? == expected)
 }
 
 fn main(rt: HostRuntime) -> io::Result<()> {
     let mut agreed = 0u32;
-    for i in 0..SCRIPTS {
-        if agrees(&rt, i + 1)? {
+    for number in 1..=SCRIPTS {
+        if agrees(&rt, number)? {
             agreed += 1;
         } else {
-            let number = i + 1;
             println!(rt; "script {number} differs")?;
         }
     }

@@ -1,4 +1,3 @@
 pub mod Same
 pub mod Calls
 pub mod Making
-pub mod Questions

@@ -1,29 +1,11 @@
--- Emptying the lines one after another, and making one more station. Assumes nothing.
-use Rattle.std.proofs.Common.{◌≡◌, ℕ, zero, suc, ◌+◌, ◌-◌, ◌<◌, ◌≤◌, eqb, ltb, List, [], ◌∷◌, ◌++◌, map, length, sym, refl, ap, ◌∙◌, ⊎_elim, arith}
-use mathlib.Core.Path.{fun_ext}
+-- Making one more station, and a new ring. Assumes nothing.
+use Rattle.std.proofs.Common.{◌≡◌, ℕ, zero, suc, ◌+◌, ◌-◌, ◌<◌, ◌≤◌, List, [], ◌∷◌, ◌++◌, map, length, sym, refl, ap, ◌∙◌, arith}
 use mathlib.Core.List.{map-append}
-use Rattle.std.proofs.lemmas.Bool.{cond_both, cond-true, cases_lt, lt-ltb, eqb-false}
 use Rattle.std.proofs.lemmas.List.{length-map, append_assoc, append-nil}
 use Rattle.protocol.specs.declared.frame.Frame.{Frame}
-use Rattle.wires.specs.Lines.{Lines, Sound, silent}
-use Rattle.wires.specs.Calls.{changed, cleared}
+use Rattle.wires.specs.Lines.{Lines, silent}
 use Rattle.station.specs.Model.{Model, new_model}
 use Rattle.runs.specs.Rings.{Rules, Ring, new_stations, new_ring}
-
-pub cleared_roll : (w : Lines Frame) (i : ℕ) → (cleared w i).roll ≡ w.roll
-cleared_roll w i = cond_both (ltb i w.roll) (changed w i (λ _. [])) w (λ (z : Lines Frame). z.roll ≡ w.roll) (λ _. refl) (λ _. refl)
-
-pub cleared_more : (w : Lines Frame) (i : ℕ) → i < w.roll → ((k : ℕ) → k < i → w.at k ≡ []) → (k : ℕ) → k < i + 1 → (cleared w i).at k ≡ []
-cleared_more w i on h k l =
-    ap (λ (z : Lines Frame). z.at k) (cond-true (ltb i w.roll) (changed w i (λ _. [])) w (lt-ltb i w.roll on)) ∙
-    cond_both (eqb k i) [] (w.at k) (λ (z : List Frame). z ≡ []) (λ _. refl) (λ e. h k (omega (arith, eqb-false k i e)))
-
-pub all_silent : (w : Lines Frame) (n : ℕ) → Sound w → w.roll ≡ n → ((k : ℕ) → k < n → w.at k ≡ []) → w ≡ silent n
-all_silent w n sound e h =
-    λ i. record { roll = e i; at = fun_ext each i }
-  where
-    each : (k : ℕ) → w.at k ≡ []
-    each k = ⊎_elim (h k) (λ (l : n ≤ k). sound.off k (omega (arith, e, l))) (cases_lt k n)
 
 module _ {S : Type 0} (roll : ℕ) (b : S) where
   -- the next station to make, and those after it
@@ -46,12 +28,7 @@ module _ {S : Type 0} (roll : ℕ) (b : S) where
       rest : List (Model S)
       rest = new_stations roll b (s + 1) (roll - (s + 1))
 
-  -- at first all are left, and at last none
-  pub none_made : {X : Type 0} (f : X → Model S) (xs : List X) → xs ≡ [] → map f xs ++ new_stations roll b 0 (roll - 0) ≡ new_stations roll b 0 roll
-  none_made f xs e =
-      let z : roll - 0 ≡ roll = omega arith in
-      ap (λ l. map f l ++ new_stations roll b 0 (roll - 0)) e ∙ ap (new_stations roll b 0) z
-
+  -- at last none is left
   pub all_made : (xs : List (Model S)) (s : ℕ) (all : List (Model S)) → roll ≤ s → xs ++ new_stations roll b s (roll - s) ≡ all → xs ≡ all
   unfolding new_stations
   all_made xs s all l e =

@@ -1,27 +1,14 @@
--- A station, a list of stations and a ring are what they keep: the facts beside it make no difference. Assumes nothing.
-use Rattle.std.proofs.Common.{◌≡◌, ℕ, zero, suc, ◌≤◌, true, List, [], ◌∷◌, length, get_or, set, vec_items, vec_len, Vec, refl, ap, ◌∙◌}
-use mathlib.Core.Bool.{Bool-set}
+-- A list of stations and a ring are what they keep: the facts beside it make no difference. Assumes nothing.
+use Rattle.std.proofs.Common.{◌≡◌, ℕ, zero, suc, ◌≤◌, List, [], ◌∷◌, length, get_or, set, Some, vec_len, Vec, sym, refl, ap, ◌∙◌}
 use mathlib.Core.HLevel.{is_prop→PathP}
 use native.Mathlib.Bridge.{le_prop}
 use native.Mathlib.Nat.{ℕ_set}
+use Rattle.std.specs.List.{slice_get}
 use Rattle.std.specs.Vec.{with_item}
+use Rattle.std.proofs.lemmas.Option.{get_or_from_slice_get}
 use Rattle.protocol.specs.Limits.{max_stations}
-use Rattle.journal.specs.Core.{core_of}
 use Rattle.station.specs.declared.station.Station.{Station}
-use Rattle.station.specs.Meaning.{Unchanged}
-use Rattle.station.specs.Sound.{is_sound}
 use Rattle.ring.specs.declared.ring.Ring.{Ring}
-
--- a station whose memory is as it was is the same station
-pub same_station : {B : Type 0} (x y : Station B) → Unchanged x y → y ≡ x
-same_station x y u i = record {
-  status = u.status i;
-  journal = u.journal i;
-  outbox = u.outbox i;
-  book = u.book i;
-  settled = is_prop→PathP (λ k. (u.status k).firm ≤ length (vec_items (u.journal k).items)) (λ k. le_prop) y.settled x.settled i;
-  sound = is_prop→PathP (λ k. is_sound (core_of (u.status k) (vec_items (u.journal k).items)) ≡ true) (λ k. Bool-set _ _) y.sound x.sound i;
-}
 
 set_same : {X : Type 0} (xs : List X) (s : ℕ) (x : X) → x ≡ get_or xs s x → set xs s x ≡ xs
 set_same [] s x e = refl
@@ -29,7 +16,7 @@ set_same (y ∷ xs) zero x e = ap (λ z. z ∷ xs) e
 set_same (y ∷ xs) (suc s) x e = ap (λ l. y ∷ l) (set_same xs s x e)
 
 -- an item written over by itself
-pub same_items : {X Z : Type 0} (v : Vec X Z) (s : ℕ) (x y : X) → x ≡ get_or v.items s x → y ≡ x → with_item v s y ≡ v
+pub same_items : {X Z : Type 0} (v : Vec X Z) (s : ℕ) (x y : X) → slice_get v.items s ≡ Some x → y ≡ x → with_item v s y ≡ v
 same_items v s x y e f i = record {
   ptr = v.ptr;
   len = v.len;
@@ -41,11 +28,7 @@ same_items v s x y e f i = record {
 }
   where
     all : set v.items s y ≡ v.items
-    all = ap (λ z. set v.items s z) f ∙ set_same v.items s x e
-
--- a station that a call left as it was
-pub unwritten : {B Z : Type 0} (v : Vec (Station B) Z) (s : ℕ) (x y : Station B) → x ≡ get_or v.items s x → Unchanged x y → with_item v s y ≡ v
-unwritten v s x y e u = same_items v s x y e (same_station x y u)
+    all = ap (λ z. set v.items s z) f ∙ set_same v.items s x (sym (get_or_from_slice_get v.items s x x e))
 
 pub same_ring : {W B R : Type 0} (v : Ring W B R) (xs : Vec (Station B) _) (w : W) (p : vec_len xs ≤ max_stations) (q : 1 ≤ v.turn) → xs ≡ v.stations → w ≡ v.wire →
     ◌≡◌ {A = Ring W B R} (record { stations = xs; wire = w; rule = v.rule; turn = v.turn; few = p; begun = q }) v

@@ -1,18 +1,11 @@
 -- What a ring in memory means, by what its wire, its books and its voting rule mean. Assumes nothing.
-use Rattle.std.specs.Prelude.{ℕ, Bool, map, Ok, Err, vec_items, Result}
-use Rattle.protocol.specs.Refusals.{number_of}
+use Rattle.std.specs.Prelude.{ℕ, Bool, map, vec_items}
 use Rattle.protocol.specs.declared.note.Note.{Note}
 use Rattle.protocol.specs.declared.frame.Frame.{Frame}
-use Rattle.protocol.specs.declared.refusal.Refusal.{Refusal}
 use Rattle.wires.specs.Lines.{Lines}
 use Rattle.station.specs.Meaning.{model}
 use Rattle.runs.specs.Rings.{Rules, Ring as Rings}
 use Rattle.ring.specs.declared.ring.Ring.{Ring}
-
--- the number that a call is answered by: 0, or its refusal's
-abbrev pub answer_number : {A : Type 0} → Result A Refusal → ℕ
-answer_number (Ok _) = 0
-answer_number (Err e) = number_of e
 
 module _ {W B R S : Type 0} where
   -- its stations, its lines and the next turn

@@ -10,6 +10,6 @@ fn main(rt: HostRuntime) -> io::Result<()> {
     let mut text = Vec::new(rt.alloc());
     // one byte more than is allowed tells a text that is too long
     rt.stdin().take(MAX_TEXT as u64 + 1).read_to_end(&mut text)?;
-    let print = replay(rt.alloc(), text.as_slice())?;
-    rt.stdout().write_all(print.as_slice())
+    let print = replay(rt.alloc(), &text)?;
+    rt.stdout().write_all(&print)
 }

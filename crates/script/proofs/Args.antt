@@ -1,11 +1,12 @@
 -- Numbers under a key, and what follows them.
-use Rattle.std.proofs.Common.{◌≡◌, ℕ, ◌^◌, ◌<◌, Bool, true, false, List, [], ◌∷◌, ◌++◌, drop, Some, None, codes, decimal, Option, sym, refl, ◌∙◌, subst, arith, Bor, rules}
+use Rattle.std.proofs.Common.{◌≡◌, ℕ, ◌^◌, ◌<◌, List, [], ◌∷◌, ◌++◌, drop, Some, None, MatchOption, codes, decimal, Option, sym, refl, ◌∙◌, subst, arith, Bor, rules}
 use Rattle.std.proofs.lemmas.Str.Parse.{digit_at}
 use Rattle.script.specs.Words.{Free, tail_at, IsField}
 use Rattle.script.specs.declared.words.Word.{Word}
 use Rattle.script.specs.declared.words.Word.TheVariants.{Key, Value}
 use Rattle.script.specs.Parts.{numbered, Follows}
 use Rattle.script.proofs.Cuts.{free_by_places, same_cut, no_cut}
+use Rattle.script.proofs.Options.{on_each}
 use Rattle.script.proofs.Decimal.{all_digits, small}
 use Rattle.std.proofs.lemmas.Fmt.{decimal_injective}
 
@@ -16,9 +17,9 @@ free_decimal n h = free_by_places 32 (decimal n) (λ k l e. omega (arith, digit_
 -- a word ends at the first space, or at the end
 pub same_word : (v w s t : List ℕ) → Free 32 v → Free 32 w → Follows s → Follows t → v ++ s ≡ w ++ t → (v ≡ w) × (s ≡ t)
 same_word [] [] s t f g a b e = (refl, e)
-same_word [] (y ∷ ys) [] t f g a b e = let z : ◌≡◌ {A = ℕ} 0 1 = cc in absurd (omega arith)
+same_word [] (y ∷ ys) [] t f g a b e = cc
 same_word [] (y ∷ ys) (x ∷ s) t f g a b e = let h : x ≡ y = cc in absurd (g.0 (sym h ∙ a))
-same_word (x ∷ xs) [] s [] f g a b e = let z : ◌≡◌ {A = ℕ} 0 1 = cc in absurd (omega arith)
+same_word (x ∷ xs) [] s [] f g a b e = cc
 same_word (x ∷ xs) [] s (y ∷ t) f g a b e = let h : x ≡ y = cc in absurd (f.0 (h ∙ b))
 same_word (x ∷ xs) (y ∷ ys) s t f g a b e =
     let h : x ≡ y = cc in
@@ -52,8 +53,10 @@ module _ (key text : List ℕ) (f : Free 61 key) where
         let c = same_cut 61 k key (v ++ s) (decimal n ++ t) fk f (cc) in
         none n h (same_word v (decimal n) s t fv (free_decimal n h) fs a c.1).0
 
-    pub reads : (n : ℕ) → k ≡ key → v ≡ decimal n → 32 ∷ text ≡ numbered key n s
-    reads n ek ev = cc
+    -- the value under the key is read as the number that it writes
+    pub reads : k ≡ key → Follows s → (r : Option ℕ) → MatchOption r ((n : ℕ) → n < 2 ^ 32 → v ≡ decimal n → ⊥) (λ n. (v ≡ decimal n) × (n < 2 ^ 32))
+        → MatchOption r ((n : ℕ) (t : List ℕ) → n < 2 ^ 32 → Follows t → 32 ∷ text ≡ numbered key n t → ⊥) (λ n. (32 ∷ text ≡ numbered key n s) × (n < 2 ^ 32))
+    reads ek fs r h = on_each r (λ none. no_number none fs) (λ n p. (cc, p.1)) h
 
 -- a field at the words that a match has found
 pub the_field : (line : List ℕ) (at : ℕ) (k v : Word) (o : Option ℕ) (p q : ℕ) (x y : Bor (List ℕ)) → k ≡ Key p x → v ≡ Value q y → IsField line at k v o
@@ -62,25 +65,16 @@ the_field line at k v o p q x y ek ev f =
     let g : IsField line at (Key p x) (Value q y) o = subst (λ (z : Word). IsField line at (Key p x) z o) ev (subst (λ (z : Word). IsField line at z v o) ek f) in
     (g.2, g.3, g.4)
 
-pub at_some : (line key : List ℕ) (o : Option ℕ) (p : ℕ) → o ≡ Some p
-    → ((n : ℕ) (t : List ℕ) → n < 2 ^ 32 → Follows t → 32 ∷ drop p line ≡ numbered key n t → ⊥)
-    → (n : ℕ) (t : List ℕ) → n < 2 ^ 32 → Follows t → tail_at line o ≡ numbered key n t → ⊥
-at_some line key o p e h n t l f q = h n t l f (rw e at q)
+-- the arguments that are left begin at the place of the next key
+pub at_place : (line key s : List ℕ) (o : Option ℕ) (p : ℕ) (r : Option ℕ) → o ≡ Some p
+    → MatchOption r ((n : ℕ) (t : List ℕ) → n < 2 ^ 32 → Follows t → 32 ∷ drop p line ≡ numbered key n t → ⊥) (λ n. (32 ∷ drop p line ≡ numbered key n s) × (n < 2 ^ 32))
+    → MatchOption r ((n : ℕ) (t : List ℕ) → n < 2 ^ 32 → Follows t → tail_at line o ≡ numbered key n t → ⊥) (λ n. (tail_at line o ≡ numbered key n s) × (n < 2 ^ 32))
+at_place line key s o p r e h = rw e h
 
-pub untrue : ◌≡◌ {A = Bool} false true → ⊥
-untrue e = let z : ◌≡◌ {A = ℕ} 0 1 = cc in omega arith
-
--- what follows a number, where a line is written in two ways
-pub next : (line key : List ℕ) (m n : ℕ) (o : Option ℕ) (t all : List ℕ) → Free 61 key → m < 2 ^ 32 → n < 2 ^ 32 → Follows t
-    → all ≡ numbered key m (tail_at line o) → all ≡ numbered key n t → tail_at line o ≡ t
-next line key m n o t all f hm hn ft a b = (peel key m n (tail_at line o) t f hm hn (follows_tail line o) ft (sym a ∙ b)).1
-
--- a number with more after it is not the last
-pub not_last : (line : List ℕ) (o : Option ℕ) (p : ℕ) → o ≡ Some p → tail_at line o ≡ [] → ⊥
-not_last line o p e q =
-    let r : tail_at line o ≡ 32 ∷ drop p line = rw e in
-    let z : ◌≡◌ {A = ℕ} 0 1 = cc in
-    omega arith
+-- where a number is read and the rest is not t, the whole is no number with t after it
+pub left_out : (key : List ℕ) (m n : ℕ) (rest t all : List ℕ) → Free 61 key → Follows rest → (all ≡ numbered key m rest) × (m < 2 ^ 32) → n < 2 ^ 32 → Follows t
+    → (rest ≡ t → ⊥) → all ≡ numbered key n t → ⊥
+left_out key m n rest t all f fr a h ft none e = none (peel key m n rest t f a.1 h fr ft (sym a.0 ∙ e)).1
 
 pub free_at : Free 61 (codes "at")
 free_at = search rules

@@ -1,17 +1,18 @@
 -- a line writes at most one command
-use Rattle.std.proofs.Common.{◌≡◌, ℕ, List, [], ◌∷◌, ◌++◌, codes, decimal, sym, refl, ap, ◌∙◌, append-nil, arith, rules}
+use Rattle.std.proofs.Common.{◌≡◌, ℕ, List, [], ◌∷◌, ◌++◌, codes, decimal, MatchOption, Option, sym, refl, ap, ◌∙◌, append-nil, arith, rules}
 use Rattle.protocol.specs.declared.note.Note.{Note as NoteT}
 use Rattle.script.specs.Words.{Free}
 use Rattle.script.specs.Commands.{written, written_call, Sized, SizedCall}
-use Rattle.script.specs.Parts.{spelled, verb_of, call_arguments, key_of, value_of, arguments_of, Asks, Does, Follows}
+use Rattle.script.specs.Parts.{spelled, verb_of, call_arguments, key_of, value_of, arguments_of, Asks, Follows}
 use Rattle.runs.specs.declared.call.Call.{Call}
 use Rattle.runs.specs.declared.call.Call.TheVariants.{Note, Turn, Take, Lose, Stop, Enter}
 use Rattle.script.specs.declared.command.Command.{Command}
 use Rattle.script.specs.declared.command.Command.TheVariants.{Roll, Call as Calls}
 use Rattle.script.specs.declared.verb.Verb.{Verb}
-use Rattle.script.specs.declared.verb.Verb.TheVariants.{Note as NoteVerb, Turn as TurnVerb, Take as TakeVerb, Lose as LoseVerb, Stop as StopVerb, Enter as EnterVerb}
-use Rattle.script.proofs.Cuts.{same_cut, no_cut}
+use Rattle.script.specs.declared.verb.Verb.TheVariants.{Note as NoteVerb}
+use Rattle.script.proofs.Cuts.{same_cut}
 use Rattle.script.proofs.Args.{free_decimal, same_word, peel, free_at, free_a, free_b, free_c, free_d}
+use Rattle.script.proofs.Options.{on_each}
 use Rattle.script.proofs.Decimal.{small}
 use Rattle.std.proofs.lemmas.Fmt.{decimal_injective}
 
@@ -30,54 +31,32 @@ call_parts (Lose s) = after (codes "do=lose at=") s
 call_parts (Stop s) = after (codes "do=stop at=") s
 call_parts (Enter s) = after (codes "do=enter at=") s
 
-pub parts : (k : Command) → written k ≡ key_of k ++ (61 ∷ (value_of k ++ arguments_of k))
+parts : (k : Command) → written k ≡ key_of k ++ (61 ∷ (value_of k ++ arguments_of k))
 parts (Roll n) = after (codes "roll=") n
 parts (Calls c) = call_parts c
 
 free_key : (k : Command) → Free 61 (key_of k)
 free_key (Roll n) = search rules
-free_key (Calls c) = search rules
+free_key k = search rules
 
 free_verb : (v : Verb) → Free 32 (spelled v)
 free_verb NoteVerb = search rules
-free_verb TurnVerb = search rules
-free_verb TakeVerb = search rules
-free_verb LoseVerb = search rules
-free_verb StopVerb = search rules
-free_verb EnterVerb = search rules
+free_verb v = search rules
 
 free_value : (k : Command) → Sized k → Free 32 (value_of k)
 free_value (Roll n) h = free_decimal n h
 free_value (Calls c) h = free_verb (verb_of c)
 
 follows_call : (c : Call) → Follows (call_arguments c)
-follows_call (Note s x) = refl
 follows_call Turn = tt
-follows_call (Take s) = refl
-follows_call (Lose s) = refl
-follows_call (Stop s) = refl
-follows_call (Enter s) = refl
+follows_call c = refl
 
 follows_value : (k : Command) → Follows (arguments_of k)
 follows_value (Roll n) = tt
 follows_value (Calls c) = follows_call c
 
--- the key `do` with a value that is no verb, or whose verb has no such arguments
-pub no_verb : (key value t : List ℕ) → key ≡ codes "do" → ((w : Verb) → value ≡ spelled w → ⊥) → (k : Command) → Sized k → Asks key value t k → ⊥
-no_verb key value t e none (Roll n) h a = let z : codes "do" ≡ codes "roll" = sym e ∙ a.0 in grind arith
-no_verb key value t e none (Calls c) h a = none (verb_of c) a.1
-
-pub no_call : (v : Verb) (key value t : List ℕ) → key ≡ codes "do" → value ≡ spelled v → ((c : Call) → SizedCall c → Does v t c → ⊥)
-    → (k : Command) → Sized k → Asks key value t k → ⊥
-no_call v key value t e ev none (Roll n) h a = let z : codes "do" ≡ codes "roll" = sym e ∙ a.0 in grind arith
-no_call v key value t e ev none (Calls c) h a = none c h (sym a.1 ∙ ev, a.2)
-
--- a line without `=` writes none
-pub no_equals : (line : List ℕ) → Free 61 line → (k : Command) → Sized k → line ≡ written k → ⊥
-no_equals line f k h e = no_cut 61 line (key_of k) (value_of k ++ arguments_of k) f (e ∙ parts k)
-
 -- a line that is cut is written in these words
-pub cut_so : (line key value t : List ℕ) → Free 61 key → Free 32 value → Follows t → line ≡ key ++ (61 ∷ (value ++ t))
+cut_so : (line key value t : List ℕ) → Free 61 key → Free 32 value → Follows t → line ≡ key ++ (61 ∷ (value ++ t))
     → (k : Command) → Sized k → line ≡ written k → Asks key value t k
 cut_so line key value t fk fv ft cuts k h e =
     let c = same_cut 61 key (key_of k) (value ++ t) (value_of k ++ arguments_of k) fk (free_key k) (sym cuts ∙ e ∙ parts k) in
@@ -100,51 +79,28 @@ same_call (Note m0 m1) (Note n0 n1) hc hk f g =
     let p4 = peel (codes "d") m1.d n1.d [] [] free_d hc.4 hk.4 tt tt p3.1 in
     let e : m1 ≡ n1 = same_note m1 n1 p1.0 p2.0 p3.0 p4.0 in
     rw (p0.0, e)
-same_call (Note m0 m1) Turn hc hk f g = grind arith
-same_call (Note m0 m1) (Take n) hc hk f g = grind arith
-same_call (Note m0 m1) (Lose n) hc hk f g = grind arith
-same_call (Note m0 m1) (Stop n) hc hk f g = grind arith
-same_call (Note m0 m1) (Enter n) hc hk f g = grind arith
-same_call Turn (Note n0 n1) hc hk f g = grind arith
 same_call Turn Turn hc hk f g = refl
-same_call Turn (Take n) hc hk f g = grind arith
-same_call Turn (Lose n) hc hk f g = grind arith
-same_call Turn (Stop n) hc hk f g = grind arith
-same_call Turn (Enter n) hc hk f g = grind arith
-same_call (Take m) (Note n0 n1) hc hk f g = grind arith
-same_call (Take m) Turn hc hk f g = grind arith
 same_call (Take m) (Take n) hc hk f g = ap Take (peel (codes "at") m n [] [] free_at hc hk tt tt g).0
-same_call (Take m) (Lose n) hc hk f g = grind arith
-same_call (Take m) (Stop n) hc hk f g = grind arith
-same_call (Take m) (Enter n) hc hk f g = grind arith
-same_call (Lose m) (Note n0 n1) hc hk f g = grind arith
-same_call (Lose m) Turn hc hk f g = grind arith
-same_call (Lose m) (Take n) hc hk f g = grind arith
 same_call (Lose m) (Lose n) hc hk f g = ap Lose (peel (codes "at") m n [] [] free_at hc hk tt tt g).0
-same_call (Lose m) (Stop n) hc hk f g = grind arith
-same_call (Lose m) (Enter n) hc hk f g = grind arith
-same_call (Stop m) (Note n0 n1) hc hk f g = grind arith
-same_call (Stop m) Turn hc hk f g = grind arith
-same_call (Stop m) (Take n) hc hk f g = grind arith
-same_call (Stop m) (Lose n) hc hk f g = grind arith
 same_call (Stop m) (Stop n) hc hk f g = ap Stop (peel (codes "at") m n [] [] free_at hc hk tt tt g).0
-same_call (Stop m) (Enter n) hc hk f g = grind arith
-same_call (Enter m) (Note n0 n1) hc hk f g = grind arith
-same_call (Enter m) Turn hc hk f g = grind arith
-same_call (Enter m) (Take n) hc hk f g = grind arith
-same_call (Enter m) (Lose n) hc hk f g = grind arith
-same_call (Enter m) (Stop n) hc hk f g = grind arith
 same_call (Enter m) (Enter n) hc hk f g = ap Enter (peel (codes "at") m n [] [] free_at hc hk tt tt g).0
+same_call c k hc hk f g = grind arith
 
 alike : (c k : Command) → Sized c → Sized k → Asks (key_of c) (value_of c) (arguments_of c) k → c ≡ k
 alike (Roll m) (Roll n) hc hk a = ap Roll (decimal_injective m n (small m hc) (small n hk) a.1)
-alike (Roll m) (Calls d) hc hk a = let z : codes "roll" ≡ codes "do" = a.0 in grind arith
-alike (Calls c) (Roll n) hc hk a = let z : codes "do" ≡ codes "roll" = a.0 in grind arith
 alike (Calls c) (Calls d) hc hk a = ap Calls (same_call c d hc hk a.1 a.2)
+alike c k hc hk a = grind arith
 
 pub unique : (c k : Command) → Sized c → Sized k → written c ≡ written k → c ≡ k
 unique c k hc hk e =
     alike c k hc hk (cut_so (written c) (key_of c) (value_of c) (arguments_of c) (free_key c) (free_value c hc) (follows_value c) (parts c) k hk e)
 
-pub put_together : (line key value t : List ℕ) (k : Command) → line ≡ key ++ (61 ∷ (value ++ t)) → Asks key value t k → line ≡ written k
+put_together : (line key value t : List ℕ) (k : Command) → line ≡ key ++ (61 ∷ (value ++ t)) → Asks key value t k → line ≡ written k
 put_together line key value t k cuts a = cuts ∙ rw (a.0, a.1, a.2) (sym (parts k))
+
+-- what a line that is cut asks for is the command that it is written as
+pub asked_so : (line key value t : List ℕ) → Free 61 key → Free 32 value → Follows t → line ≡ key ++ (61 ∷ (value ++ t)) → (o : Option Command)
+    → MatchOption o ((k : Command) → Sized k → Asks key value t k → ⊥) (λ k. Asks key value t k × Sized k)
+    → MatchOption o ((k : Command) → Sized k → line ≡ written k → ⊥) (λ k. (line ≡ written k) × Sized k)
+asked_so line key value t fk fv ft cuts o h =
+    on_each o (λ none k s e. none k s (cut_so line key value t fk fv ft cuts k s e)) (λ k p. (put_together line key value t k cuts p.0, p.1)) h

@@ -1,3 +1,4 @@
+mod Options
 mod Decimal
 mod Cuts
 mod Args

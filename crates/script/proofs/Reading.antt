@@ -1,7 +1,9 @@
 -- The reading of a line is the one command that is written so.
-use Rattle.std.proofs.Common.{◌≡◌, ℕ, ◌+◌, ◌-◌, ◌*◌, ◌^◌, ◌<◌, true, ◌&&◌, ◌⊎◌, List, [], ◌∷◌, ◌++◌, length, Some, None, Ok, Err, decimal, Decides, Result, sym, refl, ap, ◌∙◌, subst, inl, inr, append-nil, arith, rules}
+use Rattle.std.proofs.Common.{◌≡◌, ℕ, ◌+◌, ◌-◌, ◌*◌, ◌^◌, ◌<◌, true, ◌&&◌, ◌⊎◌, List, [], ◌∷◌, ◌++◌, length, Some, None, Ok, Err, decimal, Decides, MatchOption, Option, Result, sym, refl, ap, ◌∙◌, subst, inl, inr, append-nil, arith, rules}
 use Rattle.std.specs.Str.Parse.{AllDigits}
 use Rattle.std.specs.Int.{IsInRange}
+use Rattle.std.specs.Option.{ok_or}
+use Rattle.std.specs.Char.{is_ascii_digit}
 use Rattle.std.specs.Str.{bytes_eq}
 use Rattle.std.proofs.lemmas.Slice.Eq.{bytes_eq-Decides}
 use Rattle.std.proofs.lemmas.Fmt.{digits_decimal, digits_value-decimal, decimal_nonempty}
@@ -11,7 +13,7 @@ use Rattle.std.proofs.lemmas.Bool.Decides.{nat_tests, Decides-and, not_from_Deci
 use Rattle.protocol.specs.declared.refusal.Refusal.{Refusal}
 use Rattle.protocol.specs.declared.refusal.Refusal.TheVariants.{MisshapenLine}
 use Rattle.script.specs.Commands.{written, Sized, SizedCall}
-use Rattle.script.specs.Reading.{digit, numbers, forms, is_u32, sized_call, sized, first_written, reading}
+use Rattle.script.specs.Reading.{Reads, numbers, forms, is_u32, sized_call, sized, first_written, reading}
 use Rattle.runs.specs.declared.call.Call.{Call}
 use Rattle.runs.specs.declared.call.Call.TheVariants.{Note, Turn, Take, Lose, Stop, Enter}
 use Rattle.script.specs.declared.command.Command.{Command}
@@ -28,7 +30,7 @@ read_on v (x ∷ xs) = read_on (v * 10 + (x - 48)) xs
 own : IsNumeralModel (AllDigits 10) (read_on 0)
 own = numerals_by_fold (AllDigits 10) tells_digits read_on (search rules)
 
-is_digit : (x : ℕ) → IsInRange 48 57 x → digit x ≡ true
+is_digit : (x : ℕ) → IsInRange 48 57 x → is_ascii_digit x ≡ true
 is_digit x h = grind (arith, nat_tests)
 
 run : (v : ℕ) (ds t : List ℕ) → AllDigits 10 ds → numbers (Some v) (ds ++ t) ≡ numbers (Some (read_on v ds)) t
@@ -102,7 +104,7 @@ with_numbers : (k : Command) (ns : List ℕ) → Sized k → numbers None (writt
 unfolding reading
 with_numbers k ns h e a = ap (λ (m : List ℕ). first_written (written k) (forms m)) e ∙ found k (forms ns) h a
 
-pub reading_written : (k : Command) → Sized k → reading (written k) ≡ Ok k
+reading_written : (k : Command) → Sized k → reading (written k) ≡ Ok k
 reading_written (Roll n) h = with_numbers (Roll n) (n ∷ []) h (one_last n h) (inl refl)
 reading_written (Calls Turn) h = with_numbers (Calls Turn) [] h refl (inr (inl refl))
 reading_written (Calls (Take s)) h = with_numbers (Calls (Take s)) (s ∷ []) h (one_last s h) (inr (inr (inl refl)))
@@ -116,9 +118,15 @@ reading_written (Calls (Note s x)) h =
     let e0 = one s _ h.0 ∙ ap (λ (ns : List ℕ). s ∷ ns) e1 in
     with_numbers (Calls (Note s x)) (s ∷ x.a ∷ x.b ∷ x.c ∷ x.d ∷ []) h e0 (inr (inr (inr (inr (inr (inr (inl refl)))))))
 
-pub read_so : (line : List ℕ) (k : Command) → line ≡ written k → Sized k → Ok k ≡ reading line
+read_so : (line : List ℕ) (k : Command) → line ≡ written k → Sized k → Ok k ≡ reading line
 read_so line k e h = sym (ap reading e ∙ reading_written k h)
 
-pub unread : (line : List ℕ) → ((k : Command) → Sized k → line ≡ written k → ⊥) → Err MisshapenLine ≡ reading line
+unread : (line : List ℕ) → ((k : Command) → Sized k → line ≡ written k → ⊥) → Err MisshapenLine ≡ reading line
 unfolding reading
 unread line none = sym (none_written line (forms (numbers None line)) none)
+
+-- what a line is read as, where the command is known or there is none
+pub read_as : (line : List ℕ) (o : Option Command) → MatchOption o ((k : Command) → Sized k → line ≡ written k → ⊥) (λ k. (line ≡ written k) × Sized k)
+    → Reads line (ok_or o MisshapenLine) × ((k : Command) → Sized k → line ≡ written k → ok_or o MisshapenLine ≡ Ok k) × (ok_or o MisshapenLine ≡ reading line)
+read_as line None none = ((refl, none), (λ k h e. absurd (none k h e)), unread line none)
+read_as line (Some c) p = (p, (λ k h e. ap Ok (unique c k p.1 h (sym p.0 ∙ e))), read_so line c p.0 p.1)

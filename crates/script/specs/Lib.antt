@@ -5,3 +5,4 @@ pub mod Reading
 pub mod Limits
 pub mod Lines
 pub mod Script
+pub mod Arguments

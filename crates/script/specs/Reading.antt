@@ -1,5 +1,6 @@
 -- Which command a line is. Assumes nothing.
-use Rattle.std.specs.Prelude.{◌≡◌, ℕ, ◌+◌, ◌-◌, ◌*◌, ◌^◌, Bool, true, cond, ◌&&◌, List, [], ◌∷◌, Some, None, Ok, Err, Option, Result, ◌≢◌, nat_le, nat_lt, slice_index}
+use Rattle.std.specs.Prelude.{◌≡◌, ℕ, ◌+◌, ◌-◌, ◌*◌, ◌^◌, Bool, true, cond, ◌&&◌, List, [], ◌∷◌, Some, None, Ok, Err, Option, Result, ◌≢◌, nat_lt, slice_index}
+use Rattle.std.specs.Char.{is_ascii_digit}
 use Rattle.std.specs.Str.{bytes_eq}
 use Rattle.protocol.specs.declared.refusal.Refusal.{Refusal}
 use Rattle.protocol.specs.declared.refusal.Refusal.TheVariants.{MisshapenLine}
@@ -20,15 +21,12 @@ WrittenOnce = (c k : Command) → Sized c → Sized k → written c ≡ written 
 
 -- the same as a function of the line, which tries each form with the numbers that stand in the line
 
-abbrev pub digit : ℕ → Bool
-digit x = nat_le 48 x && nat_le x 57
-
 -- the numbers of a text, one for each run of digits, after the front of a run that is worth v
 abbrev pub numbers : Option ℕ → List ℕ → List ℕ
 numbers None [] = []
 numbers (Some v) [] = v ∷ []
-numbers None (x ∷ xs) = cond (digit x) (numbers (Some (x - 48)) xs) (numbers None xs)
-numbers (Some v) (x ∷ xs) = cond (digit x) (numbers (Some (v * 10 + (x - 48))) xs) (v ∷ numbers None xs)
+numbers None (x ∷ xs) = cond (is_ascii_digit x) (numbers (Some (x - 48)) xs) (numbers None xs)
+numbers (Some v) (x ∷ xs) = cond (is_ascii_digit x) (numbers (Some (v * 10 + (x - 48))) xs) (v ∷ numbers None xs)
 
 -- each form with the numbers ns
 abbrev pub forms : List ℕ → List Command

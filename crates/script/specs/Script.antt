@@ -46,4 +46,4 @@ script_of text = cond (nat_le (length text) max_text) (script_of_lines (lines te
 abbrev pub ReadsScript : List ℕ → Result Script ScriptError → Type 0
 ReadsScript text (Ok s) = script_of text ≡ Ok (s.roll, vec_items s.calls)
 ReadsScript text (Err (Refused line e)) = script_of text ≡ Err (line, e)
-ReadsScript text (Err Memory) = is_ok (script_of text) ≡ true
+ReadsScript text (Err (Memory e)) = is_ok (script_of text) ≡ true

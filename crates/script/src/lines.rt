@@ -1,22 +1,25 @@
 // A text cut into lines.
-ghost use Rattle.std.specs.Prelude.{◌≡◌, ◌<◌, ◌∷◌, length, IfSome};
-ghost use Rattle.script.specs.Lines.{lines, lines_left};
+ghost use Rattle.std.specs.Iterator.{YieldsFirstRef, item_count};
+ghost use Rattle.script.specs.Lines.{unread_lines};
 
 use crate::words::cut;
 
-// The first line of a text, and the text after it if there are more lines.
-pub(crate) fn first_line(text: &[u8]) -> (&[u8], Option<&[u8]>)
-    ensures parts { lines text.now ≡ result.0.now ∷ lines_left result.1 }
-    ensures shorter { IfSome result.1 (λ t. length t.now < length text.now) }
-{
-    let (line, rest) = cut(text, b'\n');
-    match rest {
-        None => (line, None),
-        Some(rest) => {
-            if rest.len() == 0 {
-                return (line, None);
-            }
-            (line, Some(rest))
-        }
+// The lines of the text that is left, if one is. `split` would give one more, an empty one, after a last byte 10.
+#[derive(Drop)]
+pub(crate) struct Lines<'a> {
+    pub(crate) left: Option<&'a [u8]>,
+}
+
+impl<'a> Iterator for Lines<'a> {
+    type Item = &'a [u8];
+
+    ghost next_gives = { YieldsFirstRef unread_lines };
+
+    ghost remaining = { item_count unread_lines };
+
+    fn next(&mut self) -> Option<&'a [u8]> {
+        let (line, rest) = cut(self.left?, b'\n');
+        self.left = rest.filter(|text| !text.is_empty());
+        Some(line)
     }
 }

@@ -1,24 +1,15 @@
 // Decimal numbers without leading zeros.
-ghost use Rattle.std.specs.Prelude.{◌≡◌, ℕ, ◌+◌, ◌^◌, ◌<◌, ◌≤◌, decimal, MatchOption, ◌≢◌};
-
-// A number of more digits than this does not begin with 0.
-const LONE: usize = 1;
+ghost use Rattle.std.specs.Prelude.{◌≡◌, ℕ, ◌^◌, ◌<◌, decimal, MatchOption, ◌≢◌};
 
 // The number that the digits write.
 pub(crate) fn number(digits: &[u8]) -> Option<u32>
     ensures { MatchOption result ((n : ℕ) → n < 2 ^ 32 → digits.now ≢ decimal n) (λ n. (digits.now ≡ decimal n) × (n < 2 ^ 32)) }
 {
-    if digits.len() == 0 || digits[0] == b'+' {
+    if digits.starts_with(b"+") {
         return None;
     }
-    if digits[0] == b'0' && digits.len() > LONE {
+    if digits.starts_with(b"0") && digits.len() > 1 {
         return None;
     }
-    match std::str::from_utf8(digits) {
-        Ok(text) => match text.parse::<u32>() {
-            Ok(n) => Some(n),
-            Err(_) => None,
-        },
-        Err(_) => None,
-    }
+    std::str::from_utf8(digits).ok()?.parse().ok()
 }

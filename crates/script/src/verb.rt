@@ -1,9 +1,9 @@
 // What a line asks to be done.
-ghost use Rattle.std.specs.Prelude.{◌≡◌, Decides, MatchOption, ◌≢◌};
+ghost use Rattle.std.specs.Prelude.{◌≡◌, MatchOption, ◌≢◌};
 ghost use Rattle.script.specs.Parts.{spelled};
 ghost use Rattle.script.specs.declared.verb.Verb.{Verb};
 
-#[derive(Clone, Copy)]
+#[derive(Clone, Copy, PartialEq, Eq, Debug)]
 pub(crate) enum Verb {
     Note,
     Turn,
@@ -13,34 +13,17 @@ pub(crate) enum Verb {
     Enter,
 }
 
-// Whether two texts are the same.
-pub(crate) fn same(a: &[u8], b: &[u8]) -> bool
-    ensures { Decides result (a.now ≡ b.now) }
-{
-    a == b
-}
-
 // The verb that a value spells.
 pub(crate) fn read_verb(value: &[u8]) -> Option<Verb>
     ensures { MatchOption result ((w : Verb) → value.now ≢ spelled w) (λ w. value.now ≡ spelled w) }
 {
-    if same(value, b"note") {
-        return Some(Verb::Note);
+    match value {
+        b"note" => Some(Verb::Note),
+        b"turn" => Some(Verb::Turn),
+        b"take" => Some(Verb::Take),
+        b"lose" => Some(Verb::Lose),
+        b"stop" => Some(Verb::Stop),
+        b"enter" => Some(Verb::Enter),
+        _ => None,
     }
-    if same(value, b"turn") {
-        return Some(Verb::Turn);
-    }
-    if same(value, b"take") {
-        return Some(Verb::Take);
-    }
-    if same(value, b"lose") {
-        return Some(Verb::Lose);
-    }
-    if same(value, b"stop") {
-        return Some(Verb::Stop);
-    }
-    if same(value, b"enter") {
-        return Some(Verb::Enter);
-    }
-    None
 }

@@ -1,1 +1,2 @@
-pub mod Sheets
+-- The lemmas of what the office prints.
+mod Padding

@@ -5,49 +5,40 @@ ghost use Rattle.sheet.specs.Amounts.{amount, given, rate, units};
 use std::fmt;
 
 // A whole number of currency units, in groups of three digits: 5,000.
-#[derive(Clone, Copy)]
+#[derive(Clone, Copy, PartialEq, Eq, Debug)]
 struct Units(u32);
 
 impl fmt::Display for Units {
     ghost output = { λ x. Some (units x.0) };
 
     fn fmt<W: fmt::Write>(&self, f: &mut fmt::Formatter<W>) -> fmt::Result {
-        let n = self.0;
-        let hundreds = n / 100 % 10;
-        let tens = n / 10 % 10;
-        let ones = n % 10;
-        if n < 1000 {
-            write!(f, "{n}")
-        } else if n < 1_000_000 {
-            let thousands = n / 1000;
-            write!(f, "{thousands},{hundreds}{tens}{ones}")
+        let (thousands, rest) = (self.0 / 1000, self.0 % 1000);
+        let (millions, middle) = (thousands / 1000, thousands % 1000);
+        if thousands == 0 {
+            write!(f, "{rest}")
+        } else if millions == 0 {
+            write!(f, "{thousands},{rest:03}")
         } else {
-            let millions = n / 1_000_000;
-            let a = n / 100_000 % 10;
-            let b = n / 10_000 % 10;
-            let c = n / 1000 % 10;
-            write!(f, "{millions},{a}{b}{c},{hundreds}{tens}{ones}")
+            write!(f, "{millions},{middle:03},{rest:03}")
         }
     }
 }
 
 // An amount in cents: 5,000.00.
-#[derive(Clone, Copy)]
+#[derive(Clone, Copy, PartialEq, Eq, Debug)]
 pub struct Amount(pub u32);
 
 impl fmt::Display for Amount {
     ghost output = { λ x. Some (amount x.0) };
 
     fn fmt<W: fmt::Write>(&self, f: &mut fmt::Formatter<W>) -> fmt::Result {
-        let whole = Units(self.0 / 100);
-        let tens = self.0 / 10 % 10;
-        let ones = self.0 % 10;
-        write!(f, "{whole}.{tens}{ones}")
+        let cents = self.0 % 100;
+        write!(f, "{}.{cents:02}", Units(self.0 / 100))
     }
 }
 
 // An amount that may be absent.
-#[derive(Clone, Copy)]
+#[derive(Clone, Copy, PartialEq, Eq, Debug)]
 pub struct Given(pub Option<u32>);
 
 impl fmt::Display for Given {
@@ -55,24 +46,20 @@ impl fmt::Display for Given {
 
     fn fmt<W: fmt::Write>(&self, f: &mut fmt::Formatter<W>) -> fmt::Result {
         match self.0 {
-            Some(cents) => {
-                let amount = Amount(cents);
-                write!(f, "{amount}")
-            }
+            Some(cents) => write!(f, "{}", Amount(cents)),
             None => write!(f, "not given"),
         }
     }
 }
 
 // A rate in hundredths of a per cent: 12.00 per cent.
-#[derive(Clone, Copy)]
+#[derive(Clone, Copy, PartialEq, Eq, Debug)]
 pub struct Rate(pub u32);
 
 impl fmt::Display for Rate {
     ghost output = { λ x. Some (rate x.0) };
 
     fn fmt<W: fmt::Write>(&self, f: &mut fmt::Formatter<W>) -> fmt::Result {
-        let per_cent = Amount(self.0);
-        write!(f, "{per_cent} per cent")
+        write!(f, "{} per cent", Amount(self.0))
     }
 }

@@ -7,7 +7,7 @@ use entries::customs_entry::CustomsEntry;
 use std::fmt;
 
 // How far an entry's duty has come.
-#[derive(Clone, Copy)]
+#[derive(Clone, Copy, PartialEq, Eq, Debug)]
 struct Duty(Option<u32>);
 
 impl fmt::Display for Duty {
@@ -15,17 +15,14 @@ impl fmt::Display for Duty {
 
     fn fmt<W: fmt::Write>(&self, f: &mut fmt::Formatter<W>) -> fmt::Result {
         match self.0 {
-            Some(cents) => {
-                let amount = Amount(cents);
-                write!(f, "duty {amount}, to be filed")
-            }
+            Some(cents) => write!(f, "duty {}, to be filed", Amount(cents)),
             None => write!(f, "awaiting duty"),
         }
     }
 }
 
 // The sheet's line of an entry.
-#[derive(Clone, Copy)]
+#[derive(Clone, Copy, PartialEq, Eq, Debug)]
 pub struct SheetLine(pub CustomsEntry);
 
 impl fmt::Display for SheetLine {

@@ -6,7 +6,7 @@ use crate::amount::{Amount, Rate};
 use protocol::note::Note;
 use std::fmt;
 
-#[derive(Clone, Copy)]
+#[derive(Clone, Copy, PartialEq, Eq, Debug)]
 pub struct Request(pub Note);
 
 impl fmt::Display for Request {
@@ -16,6 +16,7 @@ impl fmt::Display for Request {
         let Note { a, b, c, d } = self.0;
         let amount = Amount(c);
         let rate = Rate(d);
+        // by the number: a malformed note is shown by its kind too
         match a {
             1 => write!(f, "open entry {b}, price {amount} at {rate}"),
             2 => write!(f, "freight {amount} for entry {b}"),

@@ -9,3 +9,4 @@ pub mod Soundness
 pub mod Counting
 pub mod Feeding
 pub mod Settling
+pub mod Same

@@ -29,7 +29,7 @@ new_refused me roll = cond (nat_lt me roll) (cond (roll_fits roll) None (Some Ro
 -- why no station was made: the refusal, or else want of memory
 abbrev pub NotMade : Option Refusal → MakeError → Type 0
 NotMade o (Refused r) = o ≡ Some r
-NotMade o Memory = o ≡ None
+NotMade o (Memory _) = o ≡ None
 
 -- a station that enters becomes joining and has no wishes; the rest stays, and the firm count is worked out again
 abbrev pub entered : Core → Core

@@ -21,16 +21,13 @@ mod tests {
         rule: &Heads,
         t: u32,
     ) -> Result<u32, Refusal> {
-        let mut token = match station.open(wire, rule, t) {
-            Ok(token) => token,
-            Err(refusal) => return Err(refusal),
-        };
-        let mut said = 0;
+        let mut token = station.open(wire, rule, t)?;
+        let mut said = 0u32;
         for _ in 0..9 {
             let (back, more) = station.say(wire, token);
             token = back;
             if more {
-                said = u32::saturating_add(said, 1);
+                said = said.saturating_add(1);
             }
         }
         station.pass(wire, token);
@@ -40,17 +37,10 @@ mod tests {
     #[test]
     fn a_turn_by_its_token(rt: HostRuntime) -> Result<(), Fail> {
         let heap = rt.alloc();
-        let blank = Frame::Heartbeat {
-            sender: 0,
-            end: (0, 0),
-        };
-        let Ok(mut wire) = LineWire::new(2, vec![in heap; blank; 64]?) else {
-            return Err(Fail::new("no wire"));
-        };
+        let places = vec![in heap; Frame::IDLE; 64]?;
+        let mut wire = LineWire::new(2, places).map_err(|rejected| rejected.refusal)?;
         let rule = Heads::new(2)?;
-        let Ok(mut station) = Station::new(0, 2, EntryBook::new(heap)?, heap) else {
-            return Err(Fail::new("no station"));
-        };
+        let mut station = Station::new(0, 2, EntryBook::new(heap)?, heap)?;
         let note = Note {
             a: 1,
             b: 70,

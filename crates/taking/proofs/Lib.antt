@@ -1,2 +1,1 @@
-pub mod Keeping
-mod Taking
+mod Keeping

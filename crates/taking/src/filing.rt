@@ -2,7 +2,7 @@
 ghost use Rattle.std.specs.Prelude.{◌≡◌};
 ghost use Rattle.taking.specs.Take.{filing};
 
-use journal::reading::{last_turn, turn_at};
+use journal::reading::{entry_at, last_turn};
 use protocol::entry::Entry;
 
 // Held already, the next one, ahead of the next one, or none of these.
@@ -18,13 +18,13 @@ pub enum Filing {
 pub fn filing_of(journal: &[Entry], entry: &Entry, before: u32) -> Filing
     ensures { result ≡ filing journal.now entry.now before }
 {
-    let length = journal.len();
+    let next = journal.len() + 1;
     let place = entry.place as usize;
-    if 0 < place && place <= length && turn_at(journal, place) == entry.turn {
+    if entry_at(journal, place).is_some_and(|held| held.turn == entry.turn) {
         Filing::Held
-    } else if place == length + 1 && before == last_turn(journal) {
+    } else if place == next && before == last_turn(journal) {
         Filing::Next
-    } else if place > length + 1 {
+    } else if place > next {
         Filing::Ahead
     } else {
         Filing::Stray

@@ -13,18 +13,18 @@ use vote::rule::VotingRule;
 fn is_in_range(place: u16, turn: u32) -> bool
     ensures { result ≡ in_range place turn }
 {
-    0 < place && place as usize <= JOURNAL_PLACES && 0 < turn && turn <= LAST_TURN
+    (1..=JOURNAL_PLACES).contains(&usize::from(place)) && (1..=LAST_TURN).contains(&turn)
 }
 
 // Whether a journal can have that end.
 fn is_end_in_range(end: End) -> bool
     ensures { result ≡ end_in_range end }
 {
-    (end.0 == 0 && end.1 == 0) || is_in_range(end.0, end.1)
+    end == (0, 0) || is_in_range(end.0, end.1)
 }
 
 // Whether s is another station of the roll.
-fn is_other(me: u8, roll: u8, s: u8) -> bool
+pub fn is_other(me: u8, roll: u8, s: u8) -> bool
     ensures { result ≡ other me roll s }
 {
     s < roll && s != me
@@ -37,7 +37,7 @@ fn is_body_lawful<R: VotingRule>(roll: u8, rule: &R, body: &Body) -> bool
 {
     match body {
         Body::Note(_) => true,
-        Body::View(mask) => (*mask as u16) < (1u16 << roll) && rule.has_vote(*mask),
+        Body::View(mask) => u16::from(*mask) < (1u16 << roll) && rule.has_vote(*mask),
     }
 }
 
@@ -47,16 +47,13 @@ pub fn is_lawful<R: VotingRule>(me: u8, roll: u8, rule: &R, frame: &Frame) -> bo
     ensures { result ≡ lawful me roll (R.votes rule.now) frame.now }
 {
     match frame {
-        Frame::Entry {
-            sender,
-            entry,
-            before: _,
-        } => {
+        Frame::Entry { sender, entry, .. } => {
             is_other(me, roll, *sender)
                 && is_in_range(entry.place, entry.turn)
                 && is_body_lawful(roll, rule, &entry.body)
         }
-        Frame::Heartbeat { sender, end } => is_other(me, roll, *sender) && is_end_in_range(*end),
-        Frame::Join { sender, end } => is_other(me, roll, *sender) && is_end_in_range(*end),
+        Frame::Heartbeat { sender, end } | Frame::Join { sender, end } => {
+            is_other(me, roll, *sender) && is_end_in_range(*end)
+        }
     }
 }

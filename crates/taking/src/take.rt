@@ -1,20 +1,17 @@
 // Taking a frame: what a station does with it, by its own state and the kind of frame.
-ghost use Rattle.std.specs.Prelude.{◌≡◌, ◌+◌, ◌<◌, ◌≤◌, List, length};
-ghost use Rattle.protocol.specs.Limits.{max_stations, journal_places};
-ghost use Rattle.protocol.specs.Frames.{sender_of};
-ghost use Rattle.protocol.specs.declared.entry.Entry.{Entry};
-ghost use Rattle.journal.specs.Core.{core_of};
-ghost use Rattle.journal.specs.Settle.{fed, newly_firm};
+ghost use Rattle.std.specs.Prelude.{◌≡◌, ◌+◌, ◌≤◌, length};
+ghost use Rattle.protocol.specs.Limits.{journal_places};
+ghost use Rattle.journal.specs.Members.{member_core, Became, Followed};
 ghost use Rattle.taking.specs.Lawful.{place_of};
 ghost use Rattle.taking.specs.Take.{append, raise_match, heartbeat_running, join_running, after_running, after_joining, entry_running, entry_joining, filing, acts, received, taken};
 
 use crate::filing::{Filing, filing_of};
 use crate::lawful::is_lawful;
 use books::book::Book;
+use journal::member::Member;
 use journal::peer::{hear, hear_all, keep_wish, raise};
 use journal::reading::end_matches;
 use journal::state::{Cause, State};
-use journal::status::Status;
 use journal::store::Journal;
 use protocol::entry::{Body, End, Entry};
 use protocol::frame::Frame;
@@ -22,130 +19,111 @@ use vote::mask::contains;
 use vote::rule::VotingRule;
 
 // Appends an entry, and raises the sender's known place to it.
-fn append<J: Journal>(status: &mut Status, journal: &mut J, sender: u8, entry: &Entry)
-    requires sender { sender < max_stations }
-    requires next { entry.now.place ≡ length (J.entries journal.old) + 1 }
+// That the place fits stays a clause, here and below: a lawful frame has it, and a struct would be made for one call.
+fn append<J: Journal>(member: &mut Member<J>, sender: u8, entry: &Entry)
+    requires next { entry.now.place ≡ length (J.entries member.old.journal) + 1 }
     requires fits { entry.now.place ≤ journal_places }
-    ensures home { J.home journal.new ≡ J.home journal.old }
-    ensures station { core_of status.new (J.entries journal.new) ≡ append sender entry.now (core_of status.old (J.entries journal.old)) }
+    ensures { Became (append sender entry.now (member_core member.old)) member.old member.new }
 {
-    journal.push(*entry);
-    raise(&mut status.peers, sender, entry.place);
+    member.journal.push(*entry);
+    raise(&mut member.status.peers, sender, entry.place);
 }
 
 // A running station that a view lacks goes out.
-fn leave_if_put_off(status: &mut Status, body: &Body)
-    ensures { (js : List Entry) → core_of status.new js ≡ after_running body.now (core_of status.old js) }
+fn leave_if_put_off<J: Journal>(member: &mut Member<J>, body: &Body)
+    ensures { Became (after_running body.now (member_core member.old)) member.old member.new }
 {
     if let Body::View(mask) = body {
-        if !contains(*mask, status.me) {
-            status.state = State::Out(Cause::PutOff);
+        if !contains(*mask, member.status.me) {
+            member.status.state = State::Out(Cause::PutOff);
         }
     }
 }
 
 // A joining station that a view contains runs, all heard marks set.
-fn run_if_let_in(status: &mut Status, body: &Body)
-    ensures { (js : List Entry) → core_of status.new js ≡ after_joining body.now (core_of status.old js) }
+fn run_if_let_in<J: Journal>(member: &mut Member<J>, body: &Body)
+    ensures { Became (after_joining body.now (member_core member.old)) member.old member.new }
 {
     if let Body::View(mask) = body {
-        if contains(*mask, status.me) {
-            status.state = State::Running;
-            hear_all(&mut status.peers);
+        if contains(*mask, member.status.me) {
+            member.status.state = State::Running;
+            hear_all(&mut member.status.peers);
         }
     }
 }
 
 // An entry frame at a running station.
-fn run_entry<J: Journal>(
-    status: &mut Status,
-    journal: &mut J,
-    sender: u8,
-    entry: &Entry,
-    before: u32,
-)
-    requires sender { sender < max_stations }
-    requires fits { entry.now.place ≤ journal_places }
-    ensures home { J.home journal.new ≡ J.home journal.old }
-    ensures station { core_of status.new (J.entries journal.new) ≡ entry_running (filing (J.entries journal.old) entry.now before) sender entry.now (core_of status.old (J.entries journal.old)) }
+fn run_entry<J: Journal>(member: &mut Member<J>, sender: u8, entry: &Entry, before: u32)
+    requires { entry.now.place ≤ journal_places }
+    ensures { Became (entry_running (filing (J.entries member.old.journal) entry.now before) sender entry.now (member_core member.old)) member.old member.new }
 {
-    match filing_of(journal.as_slice(), entry, before) {
-        Filing::Held => raise(&mut status.peers, sender, entry.place),
+    match filing_of(member.journal.as_slice(), entry, before) {
+        Filing::Held => raise(&mut member.status.peers, sender, entry.place),
         Filing::Next => {
-            append(status, journal, sender, entry);
-            leave_if_put_off(status, &entry.body);
+            append(member, sender, entry);
+            leave_if_put_off(member, &entry.body);
         }
-        Filing::Ahead => status.state = State::Out(Cause::Gap),
+        Filing::Ahead => member.status.state = State::Out(Cause::Gap),
         Filing::Stray => {}
     }
 }
 
-// An entry frame at a joining station.
-fn join_entry<J: Journal>(
-    status: &mut Status,
-    journal: &mut J,
-    sender: u8,
-    entry: &Entry,
-    before: u32,
-)
-    requires sender { sender < max_stations }
-    requires fits { entry.now.place ≤ journal_places }
-    ensures home { J.home journal.new ≡ J.home journal.old }
-    ensures station { core_of status.new (J.entries journal.new) ≡ entry_joining (filing (J.entries journal.old) entry.now before) sender entry.now (core_of status.old (J.entries journal.old)) }
+// An entry frame at a joining station. A function of its own, since two of the four cases are not a running station's.
+fn join_entry<J: Journal>(member: &mut Member<J>, sender: u8, entry: &Entry, before: u32)
+    requires { entry.now.place ≤ journal_places }
+    ensures { Became (entry_joining (filing (J.entries member.old.journal) entry.now before) sender entry.now (member_core member.old)) member.old member.new }
 {
-    match filing_of(journal.as_slice(), entry, before) {
-        Filing::Held => raise(&mut status.peers, sender, entry.place),
+    match filing_of(member.journal.as_slice(), entry, before) {
+        Filing::Held => raise(&mut member.status.peers, sender, entry.place),
         Filing::Next => {
-            append(status, journal, sender, entry);
-            run_if_let_in(status, &entry.body);
+            append(member, sender, entry);
+            run_if_let_in(member, &entry.body);
         }
-        Filing::Ahead => {}
-        Filing::Stray => {}
+        Filing::Ahead | Filing::Stray => {}
     }
 }
 
 // A matching end raises the sender's known place.
-fn raise_matching(status: &mut Status, journal: &[Entry], sender: u8, end: End)
-    requires { sender < max_stations }
-    ensures { core_of status.new journal.now ≡ raise_match sender end (core_of status.old journal.now) }
+fn raise_matching<J: Journal>(member: &mut Member<J>, sender: u8, end: End)
+    ensures { Became (raise_match sender end (member_core member.old)) member.old member.new }
 {
-    if end_matches(journal, end) {
-        raise(&mut status.peers, sender, end.0);
+    if end_matches(member.journal.as_slice(), end) {
+        raise(&mut member.status.peers, sender, end.0);
     }
 }
 
 // A heartbeat at a running station.
-fn run_heartbeat(status: &mut Status, journal: &[Entry], sender: u8, end: End)
-    requires { sender < max_stations }
-    ensures { core_of status.new journal.now ≡ heartbeat_running sender end (core_of status.old journal.now) }
+fn run_heartbeat<J: Journal>(member: &mut Member<J>, sender: u8, end: End)
+    ensures { Became (heartbeat_running sender end (member_core member.old)) member.old member.new }
 {
-    if end.0 as usize > journal.len() {
-        status.state = State::Out(Cause::Gap);
-    } else if end_matches(journal, end) {
-        raise(&mut status.peers, sender, end.0);
-        if end.0 as usize == journal.len() {
-            hear(&mut status.peers, sender);
+    let held = member.journal.as_slice();
+    let length = held.len();
+    let place = usize::from(end.0);
+    if place > length {
+        member.status.state = State::Out(Cause::Gap);
+    } else if end_matches(held, end) {
+        raise(&mut member.status.peers, sender, end.0);
+        if place == length {
+            hear(&mut member.status.peers, sender);
         }
     }
 }
 
 // A join frame at a running station.
-fn run_join(status: &mut Status, journal: &[Entry], sender: u8, end: End)
-    requires { sender < max_stations }
-    ensures { core_of status.new journal.now ≡ join_running sender end (core_of status.old journal.now) }
+fn run_join<J: Journal>(member: &mut Member<J>, sender: u8, end: End)
+    ensures { Became (join_running sender end (member_core member.old)) member.old member.new }
 {
-    keep_wish(&mut status.peers, sender, end);
-    raise_matching(status, journal, sender, end);
+    keep_wish(&mut member.status.peers, sender, end);
+    raise_matching(member, sender, end);
 }
 
 // What a station does with a lawful frame, by its state and the kind of frame.
-fn act<J: Journal>(status: &mut Status, journal: &mut J, frame: &Frame)
-    requires sender { sender_of frame.now < max_stations }
-    requires fits { place_of frame.now ≤ journal_places }
-    ensures home { J.home journal.new ≡ J.home journal.old }
-    ensures station { core_of status.new (J.entries journal.new) ≡ acts status.old.state frame.now (core_of status.old (J.entries journal.old)) }
+fn act<J: Journal>(member: &mut Member<J>, frame: &Frame)
+    requires { place_of frame.now ≤ journal_places }
+    ensures { Became (acts member.old.status.state frame.now (member_core member.old)) member.old member.new }
 {
-    match (status.state, frame) {
+    // state and frame are matched as a pair, as the rules give them
+    match (member.status.state, frame) {
         (
             State::Running,
             Frame::Entry {
@@ -153,19 +131,9 @@ fn act<J: Journal>(status: &mut Status, journal: &mut J, frame: &Frame)
                 entry,
                 before,
             },
-        ) => run_entry(status, journal, *sender, entry, *before),
-        (State::Running, Frame::Heartbeat { sender, end }) => run_heartbeat(
-            status,
-            journal.as_slice(),
-            *sender,
-            *end,
-        ),
-        (State::Running, Frame::Join { sender, end }) => run_join(
-            status,
-            journal.as_slice(),
-            *sender,
-            *end,
-        ),
+        ) => run_entry(member, *sender, entry, *before),
+        (State::Running, Frame::Heartbeat { sender, end }) => run_heartbeat(member, *sender, *end),
+        (State::Running, Frame::Join { sender, end }) => run_join(member, *sender, *end),
         (
             State::Joining,
             Frame::Entry {
@@ -173,44 +141,33 @@ fn act<J: Journal>(status: &mut Status, journal: &mut J, frame: &Frame)
                 entry,
                 before,
             },
-        ) => join_entry(status, journal, *sender, entry, *before),
-        (State::Joining, Frame::Heartbeat { sender, end }) => raise_matching(
-            status,
-            journal.as_slice(),
-            *sender,
-            *end,
-        ),
-        (State::Joining, Frame::Join { .. }) => {}
-        (State::Out(_), _) => {}
+        ) => join_entry(member, *sender, entry, *before),
+        (State::Joining, Frame::Heartbeat { sender, end }) => raise_matching(member, *sender, *end),
+        (State::Joining, Frame::Join { .. }) | (State::Out(_), _) => {}
     }
 }
 
 // Acts on a frame if it is lawful, and ignores any other.
-fn receive<J: Journal, R: VotingRule>(status: &mut Status, journal: &mut J, rule: &R, frame: &Frame)
-    ensures home { J.home journal.new ≡ J.home journal.old }
-    ensures station { core_of status.new (J.entries journal.new) ≡ received (R.votes rule.now) frame.now (core_of status.old (J.entries journal.old)) }
+fn receive<J: Journal, R: VotingRule>(member: &mut Member<J>, rule: &R, frame: &Frame)
+    ensures { Became (received (R.votes rule.now) frame.now (member_core member.old)) member.old member.new }
 {
-    if is_lawful(status.me, status.roll, rule, frame) {
-        act(status, journal, frame);
+    if is_lawful(member.status.me, member.status.roll, rule, frame) {
+        act(member, frame);
     }
 }
 
 // Takes a frame: acts on it if it is lawful, and works the firm count out again unless the station is out.
 pub fn take<J: Journal, R: VotingRule, B: Book>(
-    status: &mut Status,
-    journal: &mut J,
+    member: &mut Member<J>,
     book: &mut B,
     rule: &R,
     frame: &Frame,
 )
-    requires { status.old.firm ≤ length (J.entries journal.old) }
-    ensures settled { status.new.firm ≤ length (J.entries journal.new) }
-    ensures home { J.home journal.new ≡ J.home journal.old }
-    ensures station { core_of status.new (J.entries journal.new) ≡ taken (R.votes rule.now) frame.now (core_of status.old (J.entries journal.old)) }
-    ensures book { B.means book.new ≡ fed B.next (B.means book.old) (newly_firm status.old.firm (core_of status.new (J.entries journal.new))) }
+    ensures member { Became (taken (R.votes rule.now) frame.now (member_core member.old)) member.old member.new }
+    ensures book { Followed B.means B.next member.old member.new book.old book.new }
 {
-    receive(status, journal, rule, frame);
-    if !status.state.is_out() {
-        status.settle_now(journal, book);
+    receive(member, rule, frame);
+    if !member.status.state.is_out() {
+        member.settle(book);
     }
 }

@@ -5,33 +5,38 @@ mod plan;
 mod rings;
 
 use plan::{Group, ROWS, read_plan};
-use replay::replay::replay;
-use rings::{EntryRing, call_all, make_rings, sums};
+use replay::replay::{EntryRing, replay};
+use rings::{count_refused, make_rings, sums};
 use std::time::Instant;
 use std::{env, fs};
 
 // how often the clock is read to tell what that costs
 const CLOCK_READS: u32 = 100_000;
 
+// The calls of a row, and the time that they took.
+#[derive(Clone, Copy, Default)]
+struct Row {
+    calls: usize,
+    nanos: u128,
+}
+
 // Makes the calls of a plan on new rings, one group after another; prints the time that each row took, and answers how
 // many calls were refused.
 fn time_groups(rt: &HostRuntime, rings: &mut [EntryRing], groups: &[Group]) -> anyhow::Result<u64> {
-    let mut nanos = [0u128; ROWS];
-    let mut calls = [0usize; ROWS];
+    let mut rows = [Row::default(); ROWS];
     let mut refused = 0u64;
     for group in groups {
-        let row = group.row.min(ROWS - 1);
         let start = Instant::now(rt)?;
-        let more = call_all(rings, group.calls.as_slice());
+        let more = count_refused(rings, group.calls.as_slice());
         let spent = start.elapsed(rt)?.as_nanos();
         refused = refused.saturating_add(more);
-        nanos[row] = nanos[row].saturating_add(spent);
-        calls[row] = calls[row].saturating_add(group.calls.len().saturating_mul(rings.len()));
+        let calls = group.calls.len().saturating_mul(rings.len());
+        let row = &mut rows[group.row.min(ROWS - 1)];
+        row.calls = row.calls.saturating_add(calls);
+        row.nanos = row.nanos.saturating_add(spent);
     }
-    for row in 0..ROWS {
-        let made = calls[row];
-        let spent = nanos[row];
-        println!(rt; "row={row} calls={made} nanos={spent}")?;
+    for (i, Row { calls, nanos }) in rows.iter().enumerate() {
+        println!(rt; "row={i} calls={calls} nanos={nanos}")?;
     }
     Ok(refused)
 }

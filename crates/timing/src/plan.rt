@@ -1,5 +1,5 @@
 // What is timed: calls in groups, each for a row of the table.
-use anyhow::anyhow;
+use anyhow::{Context, bail};
 use runs::call::Call;
 use script::command::{Command, command_of};
 use std::fs;
@@ -37,15 +37,13 @@ pub fn read_plan(rt: &HostRuntime, file: &str) -> anyhow::Result<Plan> {
             roll = n;
             continue;
         }
-        let Some((mark, rest)) = bytes.split_first() else {
-            return Err(anyhow!("an empty line"));
-        };
+        let (mark, rest) = bytes.split_first().context("an empty line")?;
         let row = mark.wrapping_sub(b'0') as usize;
         let Ok(Command::Call(call)) = command_of(rest) else {
-            return Err(anyhow!("a line is no call"));
+            bail!("a line is no call");
         };
         if row >= ROWS {
-            return Err(anyhow!("a line names no row"));
+            bail!("a line names no row");
         }
         if row != group.row {
             groups.push(group)?;

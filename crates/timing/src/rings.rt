@@ -4,33 +4,20 @@ use asking::{firm, len};
 use entries::entry_book::EntryBook;
 use lines::line_wire::LineWire;
 use protocol::frame::Frame;
-use protocol::limits::LINE_PLACES;
+use protocol::limits::LINES_PLACES;
+use replay::replay::EntryRing;
 use ring::ring::Ring;
 use runs::call::Call;
 use vote::heads::Heads;
-
-// A ring over the line wire, with entry books, that votes by heads.
-pub type EntryRing = Ring<LineWire<Frame>, EntryBook, Heads>;
 
 // A new ring.
 fn make_ring(rt: &HostRuntime, roll: u32) -> anyhow::Result<EntryRing> {
     let heap = rt.alloc();
     let book = EntryBook::new(heap)?;
-    let blank = Frame::Heartbeat {
-        sender: 0,
-        end: (0, 0),
-    };
-    let places = vec![in heap; blank; 8 * LINE_PLACES]?;
-    let Ok(wire) = LineWire::new(roll, places) else {
-        return Err(anyhow!("no wire"));
-    };
-    let Ok(rule) = Heads::new(roll) else {
-        return Err(anyhow!("no rule"));
-    };
-    let Ok(ring) = Ring::new(heap, wire, rule, &book) else {
-        return Err(anyhow!("no ring"));
-    };
-    Ok(ring)
+    let places = vec![in heap; Frame::IDLE; LINES_PLACES]?;
+    let wire = LineWire::new(roll, places).map_err(|_| anyhow!("no wire"))?;
+    let rule = Heads::new(roll).map_err(|_| anyhow!("no rule"))?;
+    Ring::new(heap, wire, rule, &book).map_err(|_| anyhow!("no ring"))
 }
 
 // So many new rings.
@@ -43,11 +30,11 @@ pub fn make_rings(rt: &HostRuntime, roll: u32, count: u32) -> anyhow::Result<Vec
 }
 
 // Makes some calls on each ring, and answers how many were refused.
-pub fn call_all(rings: &mut [EntryRing], calls: &[Call]) -> u64 {
+pub fn count_refused(rings: &mut [EntryRing], calls: &[Call]) -> u64 {
     let mut refused = 0u64;
     for ring in rings.iter_mut() {
         for call in calls {
-            if ring.call(*call) != 0 {
+            if ring.call(*call).is_err() {
                 refused = refused.saturating_add(1);
             }
         }

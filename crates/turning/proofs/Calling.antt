@@ -4,7 +4,6 @@ use Rattle.queue.specs.Contents.{oldest, rest}
 use Rattle.protocol.specs.declared.entry.Body.TheVariants as body
 use Rattle.protocol.specs.declared.refusal.Refusal.TheVariants.{WrongTurn}
 use Rattle.journal.specs.Core.{Core}
-use Rattle.journal.specs.Settle.{newly_firm}
 use Rattle.protocol.specs.declared.frame.Frame.{Frame}
 use Rattle.protocol.specs.declared.note.Note.{Note}
 use Rattle.protocol.specs.declared.refusal.Refusal.{Refusal}
@@ -63,7 +62,3 @@ module _ (k : Token) (m : Core) where
   pub pass_other : false ≡ is_own k m → pass_turn k m ≡ (m, [])
   unfolding pass_turn
   pass_other e = ap (λ (b : Bool). cond b (pass_as m.state m) (m, [])) (sym e)
-
--- nothing new is firm
-pub none_firm : (m : Core) → newly_firm m.firm m ≡ []
-none_firm m = let z : m.firm - m.firm ≡ 0 = omega arith in rw z

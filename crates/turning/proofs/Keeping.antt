@@ -44,7 +44,7 @@ keeps_put_off vote t m =
     (either m (ltb (length m.journal) journal_places) _ _ (keeps_say t _ m) (record { me = refl; firm = refl; grows = stay.grows }))
     (record { me = refl; firm = refl; grows = stay.grows }))
 
-keeps_serve : (t k p : ℕ) (m : Core) → Keeps m (serve t k p m).0
+pub keeps_serve : (t k p : ℕ) (m : Core) → Keeps m (serve t k p m).0
 unfolding serve
 keeps_serve t k p m = either m (lets_in (length m.journal) p) _ _ (keeps_say t _ m) (same m)
 

@@ -6,7 +6,10 @@ use Rattle.journal.specs.Journal.{last_turn}
 use Rattle.protocol.specs.declared.entry.Body.{Body}
 use Rattle.protocol.specs.declared.entry.Entry.{Entry}
 use Rattle.protocol.specs.declared.frame.Frame.{Frame}
-use Rattle.turning.specs.Posts.{Performed, frames_of, next_entry}
+use Rattle.journal.specs.declared.store.Journal.{Ghosts}
+use Rattle.journal.specs.declared.member.Member.{Member}
+use Rattle.turning.specs.Posts.{Performed, Posting, frames_of, next_entry}
+use Rattle.turning.specs.Played.{Played}
 use Rattle.wires.specs.Calls.{posted, posted_all}
 use Rattle.wires.specs.Lines.{Lines}
 
@@ -51,3 +54,10 @@ unsaid s m w = record { station = refl; lines = sym (post_none s w) }
 -- by an equal rule
 pub by_rule : {s : ℕ} {q r : Core × List Frame} {m : Core} {w v : Lines Frame} → r ≡ q → Performed s q m w v → Performed s r m w v
 by_rule {s} {q} {r} {m} {w} {v} e p = subst (λ (x : Core × List Frame). Performed s x m w v) (sym e) p
+
+-- by the same sender
+pub by_sender : {s r : ℕ} {q : Posting} {m : Core} {w v : Lines Frame} → s ≡ r → Performed s q m w v → Performed r q m w v
+by_sender {s} {r} {q} {m} {w} {v} e p = subst (λ x. Performed x q m w v) e p
+
+pub ruled : {J : Type 0} {g : Ghosts J} {q r : Posting} {x y : Member J g} {w v : Lines Frame} → r ≡ q → Played q x y w v → Played r x y w v
+ruled e p = record { done = by_rule e p.done; home = p.home }

@@ -1,5 +1,5 @@
 -- One step of going back round the ring. Assumes nothing.
-use Rattle.std.proofs.Common.{◌≡◌, ℕ, suc, ◌-◌, ◌<◌, Bool, true, false, cond, List, Some, None, sym, refl, ap, ◌∙◌, arith}
+use Rattle.std.proofs.Common.{◌≡◌, ℕ, suc, ◌-◌, ◌<◌, true, false, List, sym, ap, ◌∙◌, arith}
 use Rattle.vote.specs.Mask.{has, adding}
 use Rattle.journal.specs.Peers.{peer_at}
 use Rattle.journal.specs.declared.peer.Peer.{Peer}
@@ -51,12 +51,3 @@ module _ (n s v : ℕ) (ps : List Peer) where
       ap (λ x. back (k - 1) (adding gone x)) w
       ∙ sym (ap (λ x. back x gone) z
       ∙ gone_suc (k - 1) gone (sym (held ∙ ap (has v) w)) (ap (λ x. (peer_at ps x).heard) (sym w) ∙ there))
-
--- a member that was collected was not heard, and one that was not ends the search
-pub took_in : (heard : Bool) (x y : ℕ) → Some x ≡ cond heard None (Some y) → (heard ≡ false) × (x ≡ y)
-took_in false x y e = (refl, cc)
-took_in true x y e = let z : ◌≡◌ {A = ℕ} 0 1 = cc in absurd (omega arith)
-
-pub left_out : (heard : Bool) (y : ℕ) → None ≡ cond heard None (Some y) → heard ≡ true
-left_out true y e = refl
-left_out false y e = let z : ◌≡◌ {A = ℕ} 0 1 = cc in absurd (omega arith)

@@ -1,24 +1,27 @@
 -- Looking for the wish to serve. Assumes nothing.
-use Rattle.std.proofs.Common.{◌≡◌, ℕ, suc, ◌+◌, ◌-◌, ◌<◌, ◌≤◌, Bool, true, false, cond, eqb, List, [], ◌∷◌, Some, None, Option, sym, refl, ap, ◌∙◌, arith}
+use Rattle.std.proofs.Common.{◌≡◌, ℕ, suc, ◌+◌, ◌-◌, ◌<◌, ◌≤◌, Bool, true, false, cond, ◌||◌, eqb, List, [], ◌∷◌, Some, None, Option, sym, refl, ap, ◌∙◌, arith}
+use Rattle.std.specs.List.{list_any}
+use Rattle.std.specs.Option.{is_some}
 use Rattle.vote.specs.Mask.{has}
 use Rattle.journal.specs.Core.{Core}
 use Rattle.journal.specs.Peers.{peer_at}
 use Rattle.journal.specs.Settle.{view}
 use Rattle.journal.specs.declared.peer.Peer.{Peer}
 use Rattle.turning.specs.Round.{around, count_back, count_on, going_back, going_on}
-use Rattle.turning.specs.Steps.{any_wish, asked, chosen, first_is, served, tried}
+use Rattle.turning.specs.Steps.{any_wish, stands, asked, chosen, first_is, served, tried}
 
-pub wish_none : any_wish [] ≡ false
-unfolding any_wish
-wish_none = refl
+is_wish : (o : Option (ℕ × ℕ)) → is_some o ≡ stands o
+is_wish None = refl
+is_wish (Some e) = refl
 
-pub wish_here : (p : Peer) (ps : List Peer) (e : ℕ × ℕ) → p.wish ≡ Some e → any_wish (p ∷ ps) ≡ true
+pub any_stands : (ps : List Peer) → list_any (λ (p : Peer). is_some p.wish) ps ≡ any_wish ps
 unfolding any_wish
-wish_here p ps e h = rw h
-
-pub wish_past : (p : Peer) (ps : List Peer) → p.wish ≡ None → any_wish (p ∷ ps) ≡ any_wish ps
-unfolding any_wish
-wish_past p ps h = rw h
+any_stands [] = refl
+any_stands (p ∷ ps) = rw (is_wish p.wish, any_stands ps) (or_cond (stands p.wish) (any_wish ps))
+  where
+    or_cond : (a b : Bool) → (a || b) ≡ cond a true b
+    or_cond true b = refl
+    or_cond false b = refl
 
 module _ (n s v : ℕ) where
   -- is s the first member, of the stations after r from the k-th on?

@@ -1,4 +1,5 @@
 pub mod Posts
+pub mod Played
 pub mod Round
 pub mod Steps
 pub mod Calls

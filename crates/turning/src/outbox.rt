@@ -21,15 +21,9 @@ impl Outbox {
     pub fn new() -> Outbox
         ensures { waiting result ≡ [] }
     {
-        let none = Note {
-            a: 0,
-            b: 0,
-            c: 0,
-            d: 0,
-        };
         Outbox {
             queue: Queue::new(),
-            notes: [none; OUTBOX_PLACES],
+            notes: [Note::default(); OUTBOX_PLACES],
         }
     }
 

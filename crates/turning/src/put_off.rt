@@ -1,6 +1,5 @@
 // The first step of a turn: members that were not heard are put off.
-ghost use Rattle.std.specs.Prelude.{◌≡◌, if◌then◌else◌, Some, None};
-ghost use Rattle.vote.specs.Mask.{adding};
+ghost use Rattle.std.specs.Prelude.{◌≡◌};
 ghost use Rattle.journal.specs.Core.{core_of};
 ghost use Rattle.turning.specs.Posts.{Performed};
 ghost use Rattle.turning.specs.Round.{going_back};
@@ -18,39 +17,28 @@ use vote::mask::{contains, with, without};
 use vote::rule::VotingRule;
 use wires::wire::Wire;
 
-// The set with one more member, or none where that member was heard, which ends the search.
-fn collect(gone: u8, member: u8, heard: bool) -> Option<u8>
-    ensures { result ≡ (if heard then None else Some (adding gone member)) }
-{
-    if heard {
-        return None;
-    }
-    Some(with(gone, member))
-}
-
 // The members of a view that were not heard, going back from the station up to the first one heard.
 fn unheard_members(status: &Status, view: u8) -> u8
     ensures { result ≡ unheard view status.now.peers (going_back status.now.roll status.now.me) 0 }
 {
+    // the search back round the ring is nested loops left by label, as a rule of the project asks
     let mut gone = 0;
-    let mut left = status.roll - 1;
-    let mut at = status.me;
+    let mut back = (1..status.roll).rev();
     'round: loop {
         // to the member before, if there is another
-        loop {
-            if left == 0 {
+        let at = loop {
+            let Some(left) = back.next() else {
                 break 'round;
-            }
-            at = station_after(status.roll, status.me, left);
-            left -= 1;
+            };
+            let at = station_after(status.roll, status.me, left);
             if contains(view, at) {
-                break;
+                break at;
             }
-        }
-        let Some(more) = collect(gone, at, status.peers[at as usize].heard) else {
-            break 'round;
         };
-        gone = more;
+        if status.peers[at as usize].heard {
+            break 'round;
+        }
+        gone = with(gone, at);
     }
     gone
 }
@@ -66,9 +54,7 @@ pub fn put_off<J: Journal, W: Wire<Frame>, R: VotingRule>(
     ensures home { J.home journal.new ≡ J.home journal.old }
     ensures turn { Performed status.old.me (put_off (R.votes rule.now) t (core_of status.old (J.entries journal.old))) (core_of status.new (J.entries journal.new)) (W.lines wire.old) (W.lines wire.new) }
 {
-    let held = journal.as_slice();
-    let full = held.len() >= JOURNAL_PLACES;
-    let view = status.newest_view(held);
+    let view = status.newest_view(journal.as_slice());
     let gone = unheard_members(status, view);
     if gone == 0 {
         return;
@@ -76,7 +62,7 @@ pub fn put_off<J: Journal, W: Wire<Frame>, R: VotingRule>(
     let rest = without(view, gone);
     if !rule.has_vote(rest) {
         status.state = State::Out(Cause::Outvoted);
-    } else if full {
+    } else if journal.as_slice().len() >= JOURNAL_PLACES {
         status.state = State::Out(Cause::Full);
     } else {
         say_body(status, journal, wire, t, Body::View(rest));

@@ -1,11 +1,11 @@
 // The token of a turn: opening gives it, saying uses it for one note and hands it back, passing ends it.
 ghost use Rattle.std.specs.Prelude.{◌≡◌};
-ghost use Rattle.journal.specs.Core.{core_of};
+ghost use Rattle.journal.specs.Members.{member_core};
 ghost use Rattle.turning.specs.Calls.{is_own};
 
+use journal::member::Member;
 use journal::reading::last_turn;
-use journal::status::Status;
-use protocol::entry::Entry;
+use journal::store::Journal;
 
 pub mod opening;
 pub mod passing;
@@ -21,9 +21,9 @@ pub struct Token {
 
 impl Token {
     // Whether the token is the station's own, and not older than its journal's last turn.
-    fn is_own(&self, status: &Status, journal: &[Entry]) -> bool
-        ensures { result ≡ is_own self.now (core_of status.now journal.now) }
+    fn is_own<J: Journal>(&self, member: &Member<J>) -> bool
+        ensures { result ≡ is_own self.now (member_core member.now) }
     {
-        self.station == status.me && last_turn(journal) <= self.turn
+        self.station == member.status.me && last_turn(member.journal.as_slice()) <= self.turn
     }
 }

@@ -14,12 +14,7 @@ use vote::mask::contains;
 fn has_wish(peers: &[Peer; PEERS]) -> bool
     ensures { result ≡ any_wish peers.now }
 {
-    for p in peers {
-        if let Some(_) = p.wish {
-            return true;
-        }
-    }
-    false
+    peers.iter().any(|p| p.wish.is_some())
 }
 
 // The place after which a wish asks for entries, if the wish matches.
@@ -27,14 +22,8 @@ fn asked_place(journal: &[Entry], wish: Option<End>) -> Option<u16>
     ensures value { result ≡ asked journal.now wish }
     ensures bound { PlaceWithin (length journal.now) result }
 {
-    let Some(end) = wish else {
-        return None;
-    };
-    if end_matches(journal, end) {
-        Some(end.0)
-    } else {
-        None
-    }
+    let end = wish?;
+    end_matches(journal, end).then_some(end.0)
 }
 
 // The nearest matching wish, going back, of a station that has this one as its next other member: whose it is, and
@@ -47,13 +36,9 @@ pub fn wish_to_serve(status: &Status, journal: &[Entry]) -> Option<(u8, u16)>
         return None;
     }
     let view = status.newest_view(journal);
-    let mut left = status.roll - 1;
-    'search: loop {
-        if left == 0 {
-            break 'search None;
-        }
+    // the search back round the ring is nested loops left by label, as a rule of the project asks
+    'search: for left in (1..status.roll).rev() {
         let at = station_after(status.roll, status.me, left);
-        left -= 1;
         let Some(place) = asked_place(journal, status.peers[at as usize].wish) else {
             continue 'search;
         };
@@ -62,10 +47,11 @@ pub fn wish_to_serve(status: &Status, journal: &[Entry]) -> Option<(u8, u16)>
             let next = station_after(status.roll, at, k);
             if contains(view, next) {
                 if next == status.me {
-                    break 'search Some((at, place));
+                    return Some((at, place));
                 }
                 continue 'search;
             }
         }
     }
+    None
 }

@@ -1,6 +1,6 @@
--- The three laws of a majority by weight, for any weights. Assumes nothing.
+-- The laws of a majority by weight, for any weights. Assumes nothing.
 use Rattle.std.specs.Prelude.{◌≡◌, ℕ, zero, suc, ◌+◌, ◌*◌, ◌/◌, ◌%◌, ◌^◌, ◌<◌, ◌≤◌, true, false, ◌&&◌, ◌⊎◌, List, [], ◌∷◌, length, take, drop, nat_lt, slice_index, refl}
-use Rattle.std.proofs.Common.{sym, ap, ◌∙◌, inl, inr, arith, zero-mul, one-mul}
+use Rattle.std.proofs.Common.{subst, sym, ap, ◌∙◌, inl, inr, arith, zero-mul, one-mul}
 use Rattle.std.specs.Int.Count.{ones, ones_step}
 use Rattle.std.proofs.lemmas.List.{at_drop_more, at_drop_all, length-replicate, length-take-le}
 use Rattle.std.proofs.lemmas.Bool.{ltb-true, lt-ltb, and_parts, le-ltb, and_from, and_left, eq-eqb, eqb-true}
@@ -78,11 +78,7 @@ pub weight_all : (ws : List ℕ) (i m : ℕ) → length ws ≤ i → weight (dro
 unfolding weight
 weight_all ws i m h = at_drop_all (λ xs. weight xs m) ws i h
 
--- ---- the laws
-
-pub majority_roll : (ws : List ℕ) (m : ℕ) → majority ws m ≡ true → m < 2 ^ length ws
-unfolding majority
-majority_roll ws m p = ltb-true m (2 ^ length ws) (and_parts (nat_lt m (2 ^ length ws)) (nat_lt (total ws) (2 * weight ws m)) p).0
+-- ---- a majority, told by the weights
 
 more_than_half : (ws : List ℕ) (m : ℕ) → majority ws m ≡ true → total ws < 2 * weight ws m
 unfolding majority
@@ -101,14 +97,25 @@ pub majority_off : (ws : List ℕ) (m : ℕ) → everyone (length ws) < m → ma
 unfolding majority everyone
 majority_off ws m off = and_left _ _ (le-ltb m (2 ^ length ws) (omega arith))
 
-pub majority_shares : (ws : List ℕ) (a b : ℕ) → majority ws a ≡ true → majority ws b ≡ true → Share (length ws) a b
-majority_shares ws a b p q = weight_shares ws a b (omega (arith, more_than_half ws a p, more_than_half ws b q))
+-- ---- the laws, for n weights
 
-pub majority_grows : (ws : List ℕ) (a b : ℕ) → Within a b → b < 2 ^ length ws → majority ws a ≡ true → majority ws b ≡ true
-majority_grows ws a b within below p = made_majority ws b below (omega (arith, weight_grows ws a b within, more_than_half ws a p))
+pub majority_roll : {n : ℕ} (ws : List ℕ) → length ws ≡ n → (m : ℕ) → majority ws m ≡ true → m < 2 ^ n
+unfolding majority
+majority_roll ws len m p =
+    subst (λ k. m < 2 ^ k) len (ltb-true m (2 ^ length ws) (and_parts (nat_lt m (2 ^ length ws)) (nat_lt (total ws) (2 * weight ws m)) p).0)
 
-pub majority_everyone : (ws : List ℕ) → 0 < total ws → majority ws (everyone (length ws)) ≡ true
-majority_everyone ws some = made_majority ws (everyone (length ws)) (everyone_below (length ws)) (omega (arith, weight_everyone ws))
+pub majority_shares : {n : ℕ} (ws : List ℕ) → length ws ≡ n → (a b : ℕ) → majority ws a ≡ true → majority ws b ≡ true → Share n a b
+majority_shares ws len a b p q =
+    subst (λ k. Share k a b) len (weight_shares ws a b (omega (arith, more_than_half ws a p, more_than_half ws b q)))
+
+pub majority_grows : {n : ℕ} (ws : List ℕ) → length ws ≡ n → (a b : ℕ) → Within a b → b < 2 ^ n → majority ws a ≡ true → majority ws b ≡ true
+majority_grows ws len a b within below p =
+    made_majority ws b (subst (λ k. b < 2 ^ k) (sym len) below) (omega (arith, weight_grows ws a b within, more_than_half ws a p))
+
+pub majority_everyone : {n : ℕ} (ws : List ℕ) → length ws ≡ n → 0 < total ws → majority ws (everyone n) ≡ true
+majority_everyone ws len some =
+    subst (λ k. majority ws (everyone k) ≡ true) len
+    (made_majority ws (everyone (length ws)) (everyone_below (length ws)) (omega (arith, weight_everyone ws)))
 
 -- ---- by heads: each station weighs 1, so a set weighs as many as it has stations
 

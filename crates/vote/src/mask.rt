@@ -1,4 +1,4 @@
-// Sets of stations as masks: station s is in a mask if its bit s is set.
+// Sets of stations as masks: station s is in a mask if its bit s is set. Plain numbers, as they stand in views and prints.
 ghost use Rattle.std.specs.Prelude.{◌≡◌, min};
 ghost use Rattle.protocol.specs.Limits.{max_stations};
 ghost use Rattle.vote.specs.Mask.{has, everyone, adding, removing};

@@ -3,22 +3,24 @@ ghost use Rattle.std.specs.Prelude.{◌≡◌, ◌^◌, ◌<◌, ◌≤◌, true
 ghost use Rattle.protocol.specs.Limits.{max_stations};
 ghost use Rattle.vote.specs.Majority.{total, weight, majority};
 ghost use Rattle.vote.specs.Refused.{each_fits, weights_refused};
-ghost use Rattle.std.proofs.Common.{subst, sym};
+ghost use Rattle.std.proofs.Common.{subst};
 ghost use Rattle.vote.specs.Majorities.{length_taken, majority_roll, majority_shares, majority_grows, majority_everyone};
-ghost use Rattle.vote.specs.Mask.{Share, everyone};
 
 use crate::majority::more_than_half;
 use crate::mask::whole;
 use crate::rule::VotingRule;
-use protocol::limits::MAX_WEIGHT;
+use protocol::limits::{MAX_STATIONS, MAX_WEIGHT};
 use protocol::refusal::Refusal;
-use protocol::roll::is_roll_size;
+use protocol::roll::roll_size;
+
+// a weight for each number that a station can have
+const PLACES: usize = MAX_STATIONS as usize;
 
 #[derive(Clone, Copy)]
 pub struct Weights {
     stations: u8,
-    // those of the stations come first, and nothing is said of the rest
-    weights: [u8; 8],
+    // those of the stations come first, and nothing is said of the rest; an array, since a rule is Copy and asks for no memory
+    weights: [u8; PLACES],
     sum: u16,
     ghost some: { 1 ≤ stations },
     ghost few: { stations ≤ max_stations },
@@ -34,21 +36,15 @@ impl Weights {
     pub fn new(weights: &[u8]) -> Result<Weights, Refusal>
         ensures { elim result [ Ok w ↦ (weights_refused weights.now ≡ None) × (take w.stations w.weights ≡ weights.now) | Err e ↦ weights_refused weights.now ≡ Some e ] }
     {
-        let n = weights.len();
-        if !is_roll_size(n) {
-            return Err(Refusal::RollSize);
+        let stations = roll_size(weights.len())?;
+        match checked_sum(weights) {
+            Some(sum) if sum > 0 => Ok(Weights {
+                stations,
+                weights: padded(weights),
+                sum,
+            }),
+            _ => Err(Refusal::WeightRange),
         }
-        let Some(sum) = checked_sum(weights) else {
-            return Err(Refusal::WeightRange);
-        };
-        if sum == 0 {
-            return Err(Refusal::WeightRange);
-        }
-        Ok(Weights {
-            stations: n as u8,
-            weights: padded(weights),
-            sum,
-        })
     }
 }
 
@@ -68,18 +64,16 @@ fn checked_sum(weights: &[u8]) -> Option<u16>
 }
 
 // At most 8 weights, and zeros behind them.
-fn padded(weights: &[u8]) -> [u8; 8]
+fn padded(weights: &[u8]) -> [u8; PLACES]
     requires { length weights.now ≤ 8 }
     ensures { take (length weights.now) result ≡ weights.now }
 {
-    let mut all = [0; 8];
-    for (i, w) in weights.iter().enumerate() {
-        all[i] = *w;
-    }
+    let mut all = [0; PLACES];
+    all[..weights.len()].copy_from_slice(weights);
     all
 }
 
-// What the stations of the mask weigh together.
+// What the stations of the mask weigh together. The mask is halved as the definition halves it.
 fn weigh(weights: &[u8], mask: u8) -> u16
     requires { total weights.now < 2 ^ 16 }
     ensures { result ≡ weight weights.now mask }
@@ -100,19 +94,15 @@ impl VotingRule for Weights {
 
     ghost votes = { λ w. majority (take w.stations w.weights) };
 
-    ghost few = { λ x. (x.some, x.few) };
+    ghost few = { λ w. (w.some, w.few) };
 
-    ghost within = { λ x m p. subst (λ k. m < 2 ^ k) (length_taken x.stations max_stations x.weights x.few x.places) (majority_roll (take x.stations x.weights) m p) };
+    ghost within = { λ w. majority_roll (take w.stations w.weights) (length_taken w.stations max_stations w.weights w.few w.places) };
 
-    ghost shares = { λ x a b p q. subst (λ k. Share k a b) (length_taken x.stations max_stations x.weights x.few x.places) (majority_shares (take x.stations x.weights) a b p q) };
+    ghost shares = { λ w. majority_shares (take w.stations w.weights) (length_taken w.stations max_stations w.weights w.few w.places) };
 
-    ghost grows = { λ x a b sub below p.
-        majority_grows (take x.stations x.weights) a b sub
-        (subst (λ k. b < 2 ^ k) (sym (length_taken x.stations max_stations x.weights x.few x.places)) below) p };
+    ghost grows = { λ w. majority_grows (take w.stations w.weights) (length_taken w.stations max_stations w.weights w.few w.places) };
 
-    ghost all = { λ x.
-        subst (λ k. majority (take x.stations x.weights) (everyone k) ≡ true) (length_taken x.stations max_stations x.weights x.few x.places)
-        (majority_everyone (take x.stations x.weights) (subst (λ k. 0 < k) x.summed x.positive)) };
+    ghost all = { λ w. majority_everyone (take w.stations w.weights) (length_taken w.stations max_stations w.weights w.few w.places) (subst (λ k. 0 < k) w.summed w.positive) };
 
     fn roll(&self) -> u8 {
         self.stations

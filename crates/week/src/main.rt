@@ -3,7 +3,7 @@
 
 mod office;
 
-use office::{Office, Step};
+use office::Office;
 use protocol::note::Note;
 
 // the sea shipment of this week, and an entry of last week whose freight is not known yet
@@ -11,83 +11,68 @@ const ENTRY: u32 = 70;
 
 const OLDER: u32 = 68;
 
-const fn open(number: u32, price: u32, rate: u32) -> Note {
+const fn note(kind: u32, number: u32, c: u32, d: u32) -> Note {
     Note {
-        a: 1,
+        a: kind,
         b: number,
-        c: price,
-        d: rate,
+        c,
+        d,
     }
+}
+
+const fn open(number: u32, price: u32, rate: u32) -> Note {
+    note(1, number, price, rate)
 }
 
 const fn freight(number: u32, amount: u32) -> Note {
-    Note {
-        a: 2,
-        b: number,
-        c: amount,
-        d: 0,
-    }
+    note(2, number, amount, 0)
 }
 
 const fn insurance(number: u32, amount: u32) -> Note {
-    Note {
-        a: 3,
-        b: number,
-        c: amount,
-        d: 0,
-    }
+    note(3, number, amount, 0)
 }
 
 const fn close(number: u32) -> Note {
-    Note {
-        a: 4,
-        b: number,
-        c: 0,
-        d: 0,
-    }
+    note(4, number, 0, 0)
 }
 
-// Performs some steps one after another.
-fn perform(rt: &HostRuntime, office: &mut Office, steps: &[Step]) -> anyhow::Result<()> {
-    for step in steps {
-        office.perform(rt, *step)?;
-    }
-    Ok(())
+// From Monday's opening to the return of station 2.
+fn to_wednesday(rt: &HostRuntime, office: &mut Office) -> anyhow::Result<()> {
+    println!(rt; "Monday")?;
+    office.note(rt, 0, open(ENTRY, 500_000, 1_200))?;
+    office.turns(rt, 3)?;
+    office.show(rt)?;
+    println!(rt; "Tuesday")?;
+    office.ask(rt, 0, close(ENTRY))?;
+    office.note(rt, 2, freight(ENTRY, 80_000))?;
+    office.turns(rt, 3)?;
+    office.show(rt)?;
+    println!(rt; "Wednesday")?;
+    office.stop(rt, 2)?;
+    office.note(rt, 1, insurance(ENTRY, 2_000))?;
+    office.turns(rt, 2)?;
+    office.enter(rt, 2)?;
+    office.turns(rt, 2)?;
+    office.show(rt)
+}
+
+// From the question about the freight to Friday's filing.
+fn to_friday(rt: &HostRuntime, office: &mut Office) -> anyhow::Result<()> {
+    println!(rt; "Thursday")?;
+    office.turns(rt, 2)?;
+    office.ask(rt, 2, freight(ENTRY, 80_000))?;
+    office.file(rt, 1, ENTRY)?;
+    office.note(rt, 0, close(ENTRY))?;
+    office.turns(rt, 3)?;
+    office.show(rt)?;
+    println!(rt; "Friday")?;
+    office.file(rt, 1, ENTRY)?;
+    office.show(rt)
 }
 
 fn main(rt: HostRuntime) -> anyhow::Result<()> {
     println!(rt; "The week of entry {ENTRY}, a sea shipment, at three stations")?;
     let mut office = Office::new(&rt, open(OLDER, 125_000, 450))?;
-    let to_wednesday = [
-        Step::Day("Monday"),
-        Step::Note(0, open(ENTRY, 500_000, 1_200)),
-        Step::Turns(3),
-        Step::Show,
-        Step::Day("Tuesday"),
-        Step::Ask(0, close(ENTRY)),
-        Step::Note(2, freight(ENTRY, 80_000)),
-        Step::Turns(3),
-        Step::Show,
-        Step::Day("Wednesday"),
-        Step::Stop(2),
-        Step::Note(1, insurance(ENTRY, 2_000)),
-        Step::Turns(2),
-        Step::Enter(2),
-        Step::Turns(2),
-        Step::Show,
-    ];
-    perform(&rt, &mut office, &to_wednesday)?;
-    let to_friday = [
-        Step::Day("Thursday"),
-        Step::Turns(2),
-        Step::Ask(2, freight(ENTRY, 80_000)),
-        Step::File(1, ENTRY),
-        Step::Note(0, close(ENTRY)),
-        Step::Turns(3),
-        Step::Show,
-        Step::Day("Friday"),
-        Step::File(1, ENTRY),
-        Step::Show,
-    ];
-    perform(&rt, &mut office, &to_friday)
+    to_wednesday(&rt, &mut office)?;
+    to_friday(&rt, &mut office)
 }

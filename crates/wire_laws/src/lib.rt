@@ -26,11 +26,9 @@ pub fn post_all<T: Copy, W: Wire<T>>(wire: &mut W, sender: u8, frames: &[T]) -> 
     ensures same { (W.lines wire.old).roll ≤ sender → wire.new ≡ wire.old }
     ensures order { sender < (W.lines wire.old).roll → InOrder (W.lines wire.old) sender frames.now (W.lines wire.new) }
 {
-    if let Err(refusal) = wire.count(sender) {
-        return Err(refusal);
-    }
+    wire.count(sender)?;
     for frame in frames {
-        let _ = wire.post(sender, *frame);
+        wire.post(sender, *frame)?;
     }
     Ok(())
 }
@@ -45,14 +43,8 @@ pub fn count_and_take<T, W: Wire<T>>(
     ensures same { (W.lines wire.old).at station ≡ [] → wire.new ≡ wire.old }
     ensures honest { elim result [ Ok p ↦ is_some p.1 ≡ nat_lt 0 p.0 | Err _ ↦ (W.lines wire.old).roll ≤ station ] }
 {
-    let waiting = match wire.count(station) {
-        Ok(waiting) => waiting,
-        Err(refusal) => return Err(refusal),
-    };
-    match wire.take(station) {
-        Ok(frame) => Ok((waiting, frame)),
-        Err(refusal) => Err(refusal),
-    }
+    let waiting = wire.count(station)?;
+    Ok((waiting, wire.take(station)?))
 }
 
 // Takes frames until none is left, and answers how many there were: as many as the line's count was.
@@ -61,17 +53,12 @@ pub fn drain<T: Copy, W: Wire<T>>(wire: &mut W, station: u8) -> Result<usize, Re
     ensures after { W.lines wire.new ≡ cleared (W.lines wire.old) station }
     ensures same { (W.lines wire.old).at station ≡ [] → wire.new ≡ wire.old }
 {
+    // counted here: a wire is no iterator
     let mut frames = 0;
-    loop {
-        let next = match wire.take(station) {
-            Ok(next) => next,
-            Err(refusal) => return Err(refusal),
-        };
-        if next.is_none() {
-            return Ok(frames);
-        }
+    while wire.take(station)?.is_some() {
         frames += 1;
     }
+    Ok(frames)
 }
 
 // Posts a frame and takes at a station. Where that line was empty, the frame is what is taken.
@@ -86,11 +73,7 @@ pub fn post_and_take<T: Copy, W: Wire<T>>(
     ensures same { is_ok result ≡ false → wire.new ≡ wire.old }
     ensures next { sender < (W.lines wire.old).roll → station < (W.lines wire.old).roll → (station ≢ sender) → (W.lines wire.old).at station ≡ [] → result ≡ Ok (Some frame) }
 {
-    if let Err(refusal) = wire.count(station) {
-        return Err(refusal);
-    }
-    if let Err(refusal) = post_one(wire, sender, frame) {
-        return Err(refusal);
-    }
+    wire.count(station)?;
+    post_one(wire, sender, frame)?;
     wire.take(station)
 }

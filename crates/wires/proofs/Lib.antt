@@ -2,3 +2,4 @@ pub mod Changes
 pub mod Calls
 pub mod Made
 pub mod Looks
+pub mod Orders

@@ -43,10 +43,7 @@ fn wire_refused(stations: u32, memory: Memory) -> Option<Refusal>
 fn heads_refused(stations: u32) -> Option<Refusal>
     ensures { result ≡ rule_refused stations None }
 {
-    match Heads::new(stations) {
-        Ok(_) => None,
-        Err(refusal) => Some(refusal),
-    }
+    Heads::new(stations).err()
 }
 
 fn weights_refused(stations: u32, weights: &[u8]) -> Option<Refusal>
@@ -55,21 +52,15 @@ fn weights_refused(stations: u32, weights: &[u8]) -> Option<Refusal>
     if weights.len() != stations as usize {
         return Some(Refusal::RollSize);
     }
-    match Weights::new(weights) {
-        Ok(_) => None,
-        Err(refusal) => Some(refusal),
-    }
+    Weights::new(weights).err()
 }
 
 // Of two refusals the one with the smaller number.
 fn smaller(a: Option<Refusal>, b: Option<Refusal>) -> Option<Refusal>
     ensures { result ≡ least a b }
 {
-    let Some(x) = a else {
-        return b;
-    };
-    let Some(y) = b else {
-        return a;
-    };
-    if x.number() <= y.number() { a } else { b }
+    match (a, b) {
+        (Some(x), Some(y)) => Some(x.min(y)),
+        _ => a.or(b),
+    }
 }

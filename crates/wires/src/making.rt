@@ -1,10 +1,10 @@
 // When a wire is made, and why it is not.
-ghost use Rattle.std.specs.Prelude.{◌≡◌};
+ghost use Rattle.std.specs.Prelude.{◌≡◌, Some, None, Ok, Err};
 ghost use Rattle.wires.specs.Making.{wire_refused, lines_refused, pool_refused};
 
 use protocol::limits::{LINE_PLACES, POOL_PLACES};
 use protocol::refusal::Refusal;
-use protocol::roll::is_roll_size;
+use protocol::roll::roll_size;
 
 // Why a wire was not made, with the memory that was lent for it.
 #[derive(Drop)]
@@ -13,7 +13,18 @@ pub struct Rejected<M> {
     pub memory: M,
 }
 
+// The memory that was lent, or the refusal with the memory handed back.
+pub fn lent<M>(refusal: Option<Refusal>, memory: M) -> Result<M, Rejected<M>>
+    ensures { elim result [ Ok m ↦ (refusal ≡ None) × (m ≡ memory) | Err e ↦ (refusal ≡ Some e.refusal) × (e.memory ≡ memory) ] }
+{
+    match refusal {
+        Some(refusal) => Err(Rejected { refusal, memory }),
+        None => Ok(memory),
+    }
+}
+
 // The refusal of a wire that keeps a line for each of n stations, where it is lent so many places for frames.
+// An Option, since the places are handed back beside the refusal.
 pub fn lines_refused(n: u32, lent: usize) -> Option<Refusal>
     ensures { result ≡ lines_refused n lent }
 {
@@ -31,11 +42,6 @@ pub fn pool_refused(n: u32, lent: usize) -> Option<Refusal>
 fn refused(n: u32, needed: usize, lent: usize) -> Option<Refusal>
     ensures { result ≡ wire_refused n needed lent }
 {
-    if !is_roll_size(n as usize) {
-        return Some(Refusal::RollSize);
-    }
-    if lent < needed {
-        return Some(Refusal::TooFewPlaces);
-    }
-    None
+    let too_few = (lent < needed).then_some(Refusal::TooFewPlaces);
+    roll_size(n as usize).err().or(too_few)
 }

@@ -44,3 +44,14 @@ pub trait Roll<T>: Wire<T> {
     fn roll(&self) -> u8
         ensures { result ≡ (Self.Wire.lines self.now).roll };
 }
+
+// The station's place on a roll of so many, which both wires look up at the head of each call.
+pub fn on_roll(roll: u8, station: u8) -> Result<usize, Refusal>
+    ensures { result ≡ answer roll station station }
+{
+    if station < roll {
+        Ok(station as usize)
+    } else {
+        Err(Refusal::NotOnRoll)
+    }
+}

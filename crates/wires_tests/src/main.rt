@@ -5,7 +5,7 @@ use lines::line_wire::LineWire;
 use pool::place::Place;
 use pool::pool_wire::PoolWire;
 use protocol::frame::Frame;
-use protocol::limits::{LINE_PLACES, POOL_PLACES};
+use protocol::limits::{LINES_PLACES, MAX_STATIONS, POOL_PLACES};
 use protocol::note::Note;
 use queue::Queue;
 use std::alloc::{AllocError, Global};
@@ -18,45 +18,40 @@ const POSTS: u32 = 40;
 const CALLS: u32 = 600;
 
 fn main(rt: HostRuntime) -> io::Result<()> {
-    for roll in 1..9 {
+    for roll in 1..=u32::from(MAX_STATIONS) {
         let alike = drive(rt.alloc(), roll)?;
         println!(rt; "roll={roll} alike={alike}")?;
     }
-    let frames = in_order(&mut [beat(0, 0); 4], &[beat(1, 1), beat(2, 2), beat(0, 3)]);
+    let frames = in_order(&mut [Frame::IDLE; 4], &[beat(1, 1), beat(2, 2), beat(0, 3)]);
     println!(rt; "frames in order={frames}")?;
-    let notes = in_order(&mut [note(0); 4], &[note(1), note(2), note(3)]);
+    let notes = in_order(&mut [Note::default(); 4], &[note(1), note(2), note(3)]);
     println!(rt; "notes in order={notes}")
 }
 
 // How many calls both wires of a roll answer alike.
-fn drive(heap: Global, roll: u32) -> Result<u32, AllocError> {
-    let blank = beat(0, 0);
-    let Ok(mut lines) = LineWire::new(roll, vec![in heap; blank; 8 * LINE_PLACES]?) else {
+fn drive(heap: Global, roll: u32) -> Result<usize, AllocError> {
+    let frames = vec![in heap; Frame::IDLE; LINES_PLACES]?;
+    let Ok(mut lines) = LineWire::new(roll, frames) else {
         return Ok(0);
     };
-    let Ok(mut pool) = PoolWire::new(
-        roll,
-        vec![in heap; Place {
-            frame: blank,
-            waits: 0
-        }; POOL_PLACES]?,
-    ) else {
+    let place = Place {
+        frame: Frame::IDLE,
+        waits: 0,
+    };
+    let Ok(mut pool) = PoolWire::new(roll, vec![in heap; place; POOL_PLACES]?) else {
         return Ok(0);
     };
-    let mut alike: u32 = 0;
-    for turn in 0..POSTS {
-        if posts_alike(&mut lines, &mut pool, 0, turn) {
-            alike = alike.saturating_add(1);
-        }
-    }
+    let posts = (0..POSTS)
+        .filter(|turn| posts_alike(&mut lines, &mut pool, 0, *turn))
+        .count();
     let mut number = roll;
-    for _ in 0..CALLS {
-        number = next(number);
-        if answers_alike(&mut lines, &mut pool, number) {
-            alike = alike.saturating_add(1);
-        }
-    }
-    Ok(alike)
+    let calls = (0..CALLS)
+        .filter(|_| {
+            number = next(number);
+            answers_alike(&mut lines, &mut pool, number)
+        })
+        .count();
+    Ok(posts + calls)
 }
 
 // One call, chosen by the number, on both wires. Some of the stations are off the roll.
@@ -95,25 +90,18 @@ fn beat(sender: u8, turn: u32) -> Frame {
 fn note(a: u32) -> Note {
     Note {
         a,
-        b: 0,
-        c: 0,
-        d: 0,
+        ..Note::default()
     }
 }
 
 // How many of the items come out of a queue as they went in.
-fn in_order<T: Copy + PartialEq>(places: &mut [T], items: &[T]) -> u32 {
+fn in_order<T: Copy + PartialEq>(places: &mut [T], items: &[T]) -> usize {
     let mut queue = Queue::new();
     for item in items {
         queue.push(places, *item);
     }
-    let mut same: u32 = 0;
-    for item in items {
-        if let Some(x) = queue.pop(places) {
-            if x == *item {
-                same = same.saturating_add(1);
-            }
-        }
-    }
-    same
+    items
+        .iter()
+        .filter(|item| queue.pop(places) == Some(**item))
+        .count()
 }

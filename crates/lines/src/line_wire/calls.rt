@@ -1,5 +1,6 @@
 // The making of the wire, and its four calls: each works on the queue of a station, with the station's own places.
-ghost use Rattle.std.specs.Prelude.{◌≡◌, ◌<◌, Some, None, Ok, Err, vec_len};
+ghost use Rattle.std.specs.Prelude.{◌≡◌, ◌+◌, ◌*◌, ◌<◌, Some, None, Ok, Err, vec_len};
+ghost use Rattle.protocol.specs.Limits.{line_places, max_stations};
 ghost use Rattle.wires.specs.Lines.{silent};
 ghost use Rattle.wires.specs.Calls.{changed, offering};
 ghost use Rattle.lines.specs.LineWire.{line_lines};
@@ -7,11 +8,12 @@ ghost use Rattle.wires.specs.Making.{lines_refused};
 ghost use Rattle.lines.specs.LineSound.{line_sound};
 
 use super::LineWire;
-use protocol::limits::LINE_PLACES;
+use protocol::limits::{LINE_PLACES, MAX_STATIONS};
 use protocol::refusal::Refusal;
 use queue::Queue;
-use wires::making::{Rejected, lines_refused};
-use wires::wire::Wire;
+use std::ops::Range;
+use wires::making::{Rejected, lent, lines_refused};
+use wires::wire::{Roll, Wire, on_roll};
 
 impl<T: Copy> LineWire<T> {
     // A wire whose lines are empty. It keeps its frames in the places that it is lent, 32 for each station, and hands
@@ -19,15 +21,10 @@ impl<T: Copy> LineWire<T> {
     pub fn new(roll: u32, places: Vec<T>) -> Result<LineWire<T>, Rejected<Vec<T>>>
         ensures { elim result [ Ok w ↦ (lines_refused roll (vec_len places) ≡ None) × (line_lines w ≡ silent roll) | Err e ↦ (lines_refused roll (vec_len places) ≡ Some e.refusal) × (e.memory ≡ places) ] }
     {
-        if let Some(refusal) = lines_refused(roll, places.len()) {
-            return Err(Rejected {
-                refusal,
-                memory: places,
-            });
-        }
+        let places = lent(lines_refused(roll, places.len()), places)?;
         Ok(LineWire {
             roll: roll as u8,
-            queues: [Queue::new(); 8],
+            queues: [Queue::new(); MAX_STATIONS as usize],
             places,
         })
     }
@@ -37,8 +34,8 @@ impl<T: Copy> LineWire<T> {
         requires { station < self.old.roll }
         ensures { line_lines self.new ≡ changed (line_lines self.old) station (offering frame) }
     {
-        let at = station as usize * LINE_PLACES;
-        self.queues[station as usize].push(&mut self.places[at..at + LINE_PLACES], frame);
+        let at = station as usize;
+        self.queues[at].push(&mut self.places[part(at)], frame);
     }
 }
 
@@ -48,11 +45,8 @@ impl<T: Copy> Wire<T> for LineWire<T> {
     ghost sound = { λ w. line_sound w };
 
     fn post(&mut self, sender: u8, frame: T) -> Result<(), Refusal> {
-        let roll = self.roll;
-        if sender >= roll {
-            return Err(Refusal::NotOnRoll);
-        }
-        for station in 0..roll {
+        on_roll(self.roll, sender)?;
+        for station in 0..self.roll {
             if station != sender {
                 self.offer(station, frame);
             }
@@ -61,26 +55,34 @@ impl<T: Copy> Wire<T> for LineWire<T> {
     }
 
     fn take(&mut self, station: u8) -> Result<Option<T>, Refusal> {
-        if station >= self.roll {
-            return Err(Refusal::NotOnRoll);
-        }
-        let at = station as usize * LINE_PLACES;
-        Ok(self.queues[station as usize].pop(&self.places[at..at + LINE_PLACES]))
+        let at = on_roll(self.roll, station)?;
+        Ok(self.queues[at].pop(&self.places[part(at)]))
     }
 
     fn clear(&mut self, station: u8) -> Result<(), Refusal> {
-        if station >= self.roll {
-            return Err(Refusal::NotOnRoll);
-        }
-        self.queues[station as usize].clear();
+        let at = on_roll(self.roll, station)?;
+        self.queues[at].clear();
         Ok(())
     }
 
     fn count(&self, station: u8) -> Result<usize, Refusal> {
-        if station >= self.roll {
-            return Err(Refusal::NotOnRoll);
-        }
-        let at = station as usize * LINE_PLACES;
-        Ok(self.queues[station as usize].len(&self.places[at..at + LINE_PLACES]))
+        let at = on_roll(self.roll, station)?;
+        Ok(self.queues[at].len(&self.places[part(at)]))
     }
+}
+
+impl<T: Copy> Roll<T> for LineWire<T> {
+    fn roll(&self) -> u8 {
+        self.roll
+    }
+}
+
+// The places of one station.
+fn part(at: usize) -> Range<usize>
+    requires { at < max_stations }
+    ensures start { result.start ≡ at * line_places }
+    ensures end { result.end ≡ at * line_places + line_places }
+{
+    let start = at * LINE_PLACES;
+    start..start + LINE_PLACES
 }

@@ -11,12 +11,13 @@ ghost use Rattle.pool.specs.PoolWire.{pool_lines};
 ghost use Rattle.pool.specs.Pools.{line_off};
 
 use super::PoolWire;
-use super::places::{free_place, is_open, line_len, oldest_at};
+use super::places::{line_len, oldest_at};
 use crate::place::Place;
+use protocol::limits::LINE_PLACES;
 use protocol::refusal::Refusal;
 use vote::mask::{with, without};
-use wires::making::{Rejected, pool_refused};
-use wires::wire::Wire;
+use wires::making::{Rejected, lent, pool_refused};
+use wires::wire::{Roll, Wire, on_roll};
 
 impl<T: Copy> PoolWire<T> {
     // A wire whose lines are empty. It keeps its frames in the places that it is lent, 256 or more, and hands them back
@@ -24,17 +25,11 @@ impl<T: Copy> PoolWire<T> {
     pub fn new(roll: u32, places: Vec<Place<T>>) -> Result<PoolWire<T>, Rejected<Vec<Place<T>>>>
         ensures { elim result [ Ok w ↦ (pool_refused roll (vec_len places) ≡ None) × (pool_lines w ≡ silent roll) | Err e ↦ (pool_refused roll (vec_len places) ≡ Some e.refusal) × (e.memory ≡ places) ] }
     {
-        if let Some(refusal) = pool_refused(roll, places.len()) {
-            return Err(Rejected {
-                refusal,
-                memory: places,
-            });
-        }
-        let mut pool = places;
-        pool.clear();
+        let mut places = lent(pool_refused(roll, places.len()), places)?;
+        places.clear();
         Ok(PoolWire {
             roll: roll as u8,
-            pool,
+            pool: places,
         })
     }
 
@@ -54,19 +49,14 @@ impl<T: Copy> PoolWire<T> {
         ensures after { pool_lines self.new ≡ taken (pool_lines self.old) station }
         ensures same { is_some result ≡ false → self.new ≡ self.old }
     {
-        let Some(at) = oldest_at(&self.pool, station) else {
-            return None;
-        };
+        let at = oldest_at(&self.pool, station)?;
         let place = self.pool[at];
         let waits = without(place.waits, with(0, station));
         if waits == 0 {
-            free_place(&mut self.pool, at);
-            return Some(place.frame);
+            self.pool.remove(at);
+        } else {
+            self.pool[at].waits = waits;
         }
-        self.pool[at] = Place {
-            frame: place.frame,
-            waits,
-        };
         Some(place.frame)
     }
 
@@ -77,8 +67,7 @@ impl<T: Copy> PoolWire<T> {
     {
         let mut set = 0;
         for station in 0..self.roll {
-            let waiting = line_len(&self.pool, station);
-            if is_open(station, sender, waiting) {
+            if station != sender && line_len(&self.pool, station) < LINE_PLACES {
                 set = with(set, station);
             }
         }
@@ -92,9 +81,7 @@ impl<T: Copy> Wire<T> for PoolWire<T> {
     ghost sound = { λ w. record { some = w.some; few = w.few; short = w.short; off = λ s h. line_off w.roll s w.pool.items h w.listed } };
 
     fn post(&mut self, sender: u8, frame: T) -> Result<(), Refusal> {
-        if sender >= self.roll {
-            return Err(Refusal::NotOnRoll);
-        }
+        on_roll(self.roll, sender)?;
         let waits = self.receivers(sender);
         if waits != 0 {
             self.pool.push_reserved(Place { frame, waits });
@@ -103,24 +90,24 @@ impl<T: Copy> Wire<T> for PoolWire<T> {
     }
 
     fn take(&mut self, station: u8) -> Result<Option<T>, Refusal> {
-        if station >= self.roll {
-            return Err(Refusal::NotOnRoll);
-        }
+        on_roll(self.roll, station)?;
         Ok(self.remove_oldest(station))
     }
 
     fn clear(&mut self, station: u8) -> Result<(), Refusal> {
-        if station >= self.roll {
-            return Err(Refusal::NotOnRoll);
-        }
-        while let Some(_frame) = self.remove_oldest(station) {}
+        on_roll(self.roll, station)?;
+        while self.remove_oldest(station).is_some() {}
         Ok(())
     }
 
     fn count(&self, station: u8) -> Result<usize, Refusal> {
-        if station >= self.roll {
-            return Err(Refusal::NotOnRoll);
-        }
+        on_roll(self.roll, station)?;
         Ok(line_len(&self.pool, station))
+    }
+}
+
+impl<T: Copy> Roll<T> for PoolWire<T> {
+    fn roll(&self) -> u8 {
+        self.roll
     }
 }

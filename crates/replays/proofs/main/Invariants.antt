@@ -1,6 +1,6 @@
 -- No more agree than were replayed.
-use Rattle.std.proofs.Common.{◌≤◌}
+use Rattle.std.proofs.Common.{◌<◌}
 use Rattle.replays.proofs.main.Given as goal
 
-abbrev pub invariant-loop-i : goal.invariant-loop-i
-invariant-loop-i l = l.agreed ≤ l.i
+abbrev pub invariant-loop-number : goal.invariant-loop-number
+invariant-loop-number l = l.agreed < l.number-counter

@@ -1,7 +1,6 @@
 // Making a ring.
 ghost use Rattle.std.specs.Prelude.{◌≡◌, ◌≤◌, map, None, Ok, Err};
 ghost use Rattle.protocol.specs.Limits.{max_stations};
-ghost use Rattle.protocol.specs.declared.refusal.MakeError.TheVariants.{Memory};
 ghost use Rattle.wires.specs.Lines.{silent};
 ghost use Rattle.station.specs.Rules.{NotMade};
 ghost use Rattle.station.specs.Meaning.{model};
@@ -22,8 +21,7 @@ use wires::wire::Roll;
 fn silence<W: Roll<Frame>>(wire: &mut W)
     ensures { W.Wire.lines wire.new ≡ silent (W.Wire.lines wire.old).roll }
 {
-    let roll = wire.roll();
-    for at in 0..roll {
+    for at in 0..wire.roll() {
         let _ = wire.clear(at);
     }
 }
@@ -35,18 +33,12 @@ fn recruit<B: StartingBook + Drop>(
     book: &B,
 ) -> Result<Vec<Station<B>>, MakeError>
     requires { roll ≤ max_stations }
-    ensures { elim result [ Ok v ↦ map (model B.Book.means) v.items ≡ new_stations roll (B.Book.means book.now) 0 roll | Err e ↦ e ≡ Memory ] }
+    ensures { elim result [ Ok v ↦ map (model B.Book.means) v.items ≡ new_stations roll (B.Book.means book.now) 0 roll | Err e ↦ NotMade None e ] }
 {
-    let Ok(mut stations) = Vec::with_capacity(heap, roll as usize) else {
-        return Err(MakeError::Memory);
-    };
+    let mut stations = Vec::with_capacity(heap, roll as usize)?;
     for me in 0..roll {
-        let Ok(own) = book.duplicate() else {
-            return Err(MakeError::Memory);
-        };
-        let Ok(station) = Station::new(me, roll, own, heap) else {
-            return Err(MakeError::Memory);
-        };
+        let own = book.duplicate()?;
+        let station = Station::new(me, roll, own, heap)?;
         stations.push_reserved(station);
     }
     Ok(stations)
@@ -54,17 +46,14 @@ fn recruit<B: StartingBook + Drop>(
 
 impl<W: Roll<Frame> + Drop, B: StartingBook + Drop, R: VotingRule + Drop> Ring<W, B, R> {
     // A ring whose stations are new and whose lines are empty, before turn 1. The wire and the rule have to be for one roll.
-    pub fn new(heap: Global, wire: W, rule: R, book: &B) -> Result<Ring<W, B, R>, MakeError>
+    pub fn new(heap: Global, mut wire: W, rule: R, book: &B) -> Result<Ring<W, B, R>, MakeError>
         ensures { elim result [ Ok v ↦ (ring_refused (W.Wire.lines wire).roll (R.size rule) ≡ None) × (meaning B.Book.means W.Wire.lines v ≡ new_ring (ruling R.size R.votes B.Book.next v) (B.Book.means book.now)) × (v.rule ≡ rule) | Err e ↦ NotMade (ring_refused (W.Wire.lines wire).roll (R.size rule)) e ] }
     {
         let roll = rule.roll();
         if wire.roll() != roll {
-            return Err(MakeError::Refused(Refusal::RollSize));
+            return Err(Refusal::RollSize.into());
         }
-        let Ok(stations) = recruit(heap, roll, book) else {
-            return Err(MakeError::Memory);
-        };
-        let mut wire = wire;
+        let stations = recruit(heap, roll, book)?;
         silence(&mut wire);
         Ok(Ring {
             stations,

@@ -18,24 +18,15 @@ impl<W: Wire<Frame>, B: Book, R> Ring<W, B, R> {
     pub fn station(&self, at: u32) -> Result<&Station<B>, Refusal>
         ensures { elim result [ Ok x ↦ slice_get (meaning B.means W.lines self.now).stations at ≡ Some (model B.means x.now) | Err e ↦ (slice_get (meaning B.means W.lines self.now).stations at ≡ None) × (e ≡ NotOnRoll) ] }
     {
-        let s = at as usize;
-        if s >= self.stations.len() {
-            return Err(Refusal::NotOnRoll);
-        }
-        Ok(&self.stations[s])
+        self.stations.get(at as usize).ok_or(Refusal::NotOnRoll)
     }
 
     // How many frames wait in a station's line.
     pub fn frames_waiting(&self, at: u32) -> Result<usize, Refusal>
         ensures { result ≡ asked (meaning B.means W.lines self.now) at (frames_for (meaning B.means W.lines self.now) at) }
     {
-        if at as usize >= self.stations.len() {
-            return Err(Refusal::NotOnRoll);
-        }
-        match self.wire.count(at as u8) {
-            Ok(count) => Ok(count),
-            Err(_) => Ok(0),
-        }
+        self.station(at)?;
+        Ok(self.wire.count(at as u8).unwrap_or(0))
     }
 
     // The number of the next turn.

@@ -6,6 +6,7 @@ ghost use Rattle.station.specs.Meaning.{model};
 
 use super::Station;
 use books::book::Book;
+use journal::member::Member;
 use journal::peer::{PEERS, Peer};
 use journal::state::State;
 use journal::status::Status;
@@ -28,23 +29,23 @@ impl<B: Book + Drop> Station<B> {
         ensures { elim result [ Ok s ↦ (new_refused me roll ≡ None) × (model B.Book.means s ≡ new_model me roll (B.Book.means book)) × (s.book ≡ book) | Err e ↦ NotMade (new_refused me roll) e ] }
     {
         if me >= roll {
-            return Err(MakeError::Refused(Refusal::NotOnRoll));
+            return Err(Refusal::NotOnRoll.into());
         }
         if roll > MAX_STATIONS {
-            return Err(MakeError::Refused(Refusal::RollSize));
+            return Err(Refusal::RollSize.into());
         }
-        let Ok(items) = Vec::with_capacity(heap, JOURNAL_PLACES) else {
-            return Err(MakeError::Memory);
-        };
+        let items = Vec::with_capacity(heap, JOURNAL_PLACES)?;
         Ok(Station {
-            status: Status {
-                me,
-                roll,
-                state: State::Running,
-                firm: 0,
-                peers: [NEW_PEER; PEERS],
+            member: Member {
+                status: Status {
+                    me,
+                    roll,
+                    state: State::Running,
+                    firm: 0,
+                    peers: [NEW_PEER; PEERS],
+                },
+                journal: Owned { items },
             },
-            journal: Owned { items },
             outbox: Outbox::new(),
             book,
         })

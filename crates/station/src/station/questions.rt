@@ -10,32 +10,33 @@ ghost use Rattle.station.specs.Sound.{peer_of, KnownWithin, HasPlace};
 
 use super::Station;
 use journal::peer::Peer;
-use journal::reading::{end_of, entry_at};
+use journal::reading::entry_at;
 use journal::state::State;
 use journal::store::Journal;
 use protocol::entry::{End, Entry};
 use protocol::note::Note;
+use taking::lawful::is_other;
 
 impl<B> Station<B> {
     // Its number on the roll.
     pub fn number(&self) -> u8
         ensures { result ≡ (core self.now).me }
     {
-        self.status.me
+        self.member.status.me
     }
 
     // How many stations its roll has.
     pub fn roll(&self) -> u8
         ensures { result ≡ (core self.now).roll }
     {
-        self.status.roll
+        self.member.status.roll
     }
 
     // Whether it runs, is joining, or is out, and why.
     pub fn state(&self) -> State
         ensures { result ≡ (core self.now).state }
     {
-        self.status.state
+        self.member.status.state
     }
 
     // How many entries its journal has.
@@ -43,7 +44,15 @@ impl<B> Station<B> {
         ensures value { result ≡ length (core self.now).journal }
         ensures bound { result ≤ journal_places }
     {
-        self.journal.as_slice().len()
+        self.member.journal.as_slice().len()
+    }
+
+    // The entries of its journal, in order.
+    pub fn journal(&self) -> &[Entry]
+        ensures { result.now ≡ (core self.now).journal }
+    {
+        let held = &self.member.journal;
+        held.as_slice()
     }
 
     // The entry at a place of its journal, counted from 1; none outside.
@@ -51,21 +60,21 @@ impl<B> Station<B> {
         ensures value { result ≡ entry_at (core self.now).journal place }
         ensures at { HasPlace place result }
     {
-        entry_at(self.journal.as_slice(), place)
+        entry_at(self.member.journal.as_slice(), place)
     }
 
     // The last place of its journal and that entry's turn.
     pub fn end(&self) -> End
         ensures { result ≡ end_of (core self.now).journal }
     {
-        end_of(self.journal.as_slice())
+        self.member.end()
     }
 
     // The members of its newest view.
     pub fn newest_view(&self) -> u8
         ensures { result ≡ view (core self.now) }
     {
-        self.status.newest_view(self.journal.as_slice())
+        self.member.newest_view()
     }
 
     // How many entries of its journal are firm.
@@ -73,7 +82,7 @@ impl<B> Station<B> {
         ensures value { result ≡ (core self.now).firm }
         ensures bound { result ≤ length (core self.now).journal }
     {
-        self.status.firm
+        self.member.status.firm
     }
 
     // Its book.
@@ -103,9 +112,10 @@ impl<B> Station<B> {
         ensures value { result ≡ peer_of (core self.now) s }
         ensures bound { KnownWithin (length (core self.now).journal) result }
     {
-        if s >= self.status.roll || s == self.status.me {
+        let status = &self.member.status;
+        if !is_other(status.me, status.roll, s) {
             return None;
         }
-        Some(self.status.peers[s as usize])
+        Some(status.peers[s as usize])
     }
 }

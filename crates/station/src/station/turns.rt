@@ -1,7 +1,7 @@
 // The turn of a station: by its three calls, and whole.
-ghost use Rattle.std.specs.Prelude.{◌≡◌, false, Ok, Err};
+ghost use Rattle.std.specs.Prelude.{◌≡◌, false, OnErr};
 ghost use Rattle.station.specs.Rules.{open_station, say_station, pass_station, turn_station, Acted};
-ghost use Rattle.station.specs.Meaning.{model, Unchanged};
+ghost use Rattle.station.specs.Meaning.{core, model, Unchanged};
 
 use super::Station;
 use crate::turn::turn;
@@ -24,32 +24,26 @@ impl<B: Book> Station<B> {
         t: u32,
     ) -> Result<Token, Refusal>
         ensures value { result ≡ (open_station (R.votes rule.now) t (model B.means self.old)).0 }
-        ensures after { Acted self.old.status.me (open_station (R.votes rule.now) t (model B.means self.old)).1 (model B.means self.new) (W.Wire.lines wire.old) (W.Wire.lines wire.new) }
-        ensures same { elim result [ Ok k ↦ Unit {0} | Err e ↦ Unchanged self.old self.new × (wire.new ≡ wire.old) ] }
+        ensures after { Acted (core self.old).me (open_station (R.votes rule.now) t (model B.means self.old)).1 (model B.means self.new) (W.Wire.lines wire.old) (W.Wire.lines wire.new) }
+        ensures same { OnErr result (Unchanged self.old self.new × (wire.new ≡ wire.old)) }
     {
-        open(&mut self.status, &mut self.journal, wire, rule, t)
+        open(&mut self.member, wire, rule, t)
     }
 
     // Says the oldest note, or tells that none is due. The token is used up and handed back.
     pub fn say<W: Wire<Frame>>(&mut self, wire: &mut W, token: Token) -> (Token, bool)
         ensures value { result ≡ (say_station token (model B.means self.old)).0 }
-        ensures after { Acted self.old.status.me (say_station token (model B.means self.old)).1 (model B.means self.new) (W.Wire.lines wire.old) (W.Wire.lines wire.new) }
+        ensures after { Acted (core self.old).me (say_station token (model B.means self.old)).1 (model B.means self.new) (W.Wire.lines wire.old) (W.Wire.lines wire.new) }
         ensures same { result.1 ≡ false → Unchanged self.old self.new × (wire.new ≡ wire.old) }
     {
-        say(
-            &self.status,
-            &mut self.journal,
-            &mut self.outbox,
-            wire,
-            token,
-        )
+        say(&mut self.member, &mut self.outbox, wire, token)
     }
 
     // Ends the turn, and the token with it.
     pub fn pass<W: Wire<Frame>>(&mut self, wire: &mut W, token: Token)
-        ensures { Acted self.old.status.me (pass_station B.next token (model B.means self.old)) (model B.means self.new) (W.Wire.lines wire.old) (W.Wire.lines wire.new) }
+        ensures { Acted (core self.old).me (pass_station B.next token (model B.means self.old)) (model B.means self.new) (W.Wire.lines wire.old) (W.Wire.lines wire.new) }
     {
-        pass(&mut self.status, &self.journal, wire, &mut self.book, token);
+        pass(&mut self.member, wire, &mut self.book, token);
     }
 
     // A whole turn: opens it, says notes until none is due, and passes.
@@ -60,12 +54,11 @@ impl<B: Book> Station<B> {
         t: u32,
     ) -> Result<(), Refusal>
         ensures value { result ≡ (turn_station B.next (R.votes rule.now) t (model B.means self.old)).0 }
-        ensures after { Acted self.old.status.me (turn_station B.next (R.votes rule.now) t (model B.means self.old)).1 (model B.means self.new) (W.Wire.lines wire.old) (W.Wire.lines wire.new) }
-        ensures same { elim result [ Ok k ↦ Unit {0} | Err e ↦ Unchanged self.old self.new × (wire.new ≡ wire.old) ] }
+        ensures after { Acted (core self.old).me (turn_station B.next (R.votes rule.now) t (model B.means self.old)).1 (model B.means self.new) (W.Wire.lines wire.old) (W.Wire.lines wire.new) }
+        ensures same { OnErr result (Unchanged self.old self.new × (wire.new ≡ wire.old)) }
     {
         turn(
-            &mut self.status,
-            &mut self.journal,
+            &mut self.member,
             &mut self.outbox,
             &mut self.book,
             wire,

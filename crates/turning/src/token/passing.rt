@@ -1,43 +1,35 @@
 // Passing: the fourth step, or the join frame.
-ghost use Rattle.std.specs.Prelude.{◌≡◌, ◌≤◌, length};
-ghost use Rattle.journal.specs.Core.{core_of};
-ghost use Rattle.journal.specs.Settle.{fed, newly_firm};
-ghost use Rattle.turning.specs.Posts.{Performed};
+ghost use Rattle.std.specs.Prelude.{◌≡◌};
+ghost use Rattle.journal.specs.Members.{member_core, Followed};
 ghost use Rattle.turning.specs.Calls.{pass_as, pass_turn};
+ghost use Rattle.turning.specs.Played.{Played};
 
 use super::Token;
 use books::book::Book;
+use journal::member::Member;
 use journal::peer::clear_marks;
-use journal::reading::end_of;
 use journal::state::State;
-use journal::status::Status;
 use journal::store::Journal;
 use protocol::frame::Frame;
 use wires::wire::Wire;
 
 // Ends a turn by the state: a heartbeat, a join frame, or nothing; then the firm count.
-fn pass_on<J: Journal, W: Wire<Frame>, B: Book>(
-    status: &mut Status,
-    journal: &J,
-    wire: &mut W,
-    book: &mut B,
-)
-    requires { status.old.firm ≤ length (J.entries journal.now) }
-    ensures settled { status.new.firm ≤ length (J.entries journal.now) }
-    ensures turn { Performed status.old.me (pass_as status.old.state (core_of status.old (J.entries journal.now))) (core_of status.new (J.entries journal.now)) (W.lines wire.old) (W.lines wire.new) }
-    ensures book { B.means book.new ≡ fed B.next (B.means book.old) (newly_firm status.old.firm (core_of status.new (J.entries journal.now))) }
+fn pass_on<J: Journal, W: Wire<Frame>, B: Book>(member: &mut Member<J>, wire: &mut W, book: &mut B)
+    ensures turn { Played (pass_as member.old.status.state (member_core member.old)) member.old member.new (W.lines wire.old) (W.lines wire.new) }
+    ensures journal { member.new.journal ≡ member.old.journal }
+    ensures book { Followed B.means B.next member.old member.new book.old book.new }
 {
-    let sender = status.me;
-    let end = end_of(journal.as_slice());
-    match status.state {
+    let sender = member.status.me;
+    let end = member.end();
+    match member.status.state {
         State::Running => {
             let _ = wire.post(sender, Frame::Heartbeat { sender, end });
-            clear_marks(&mut status.peers);
-            status.settle_now(journal, book);
+            clear_marks(&mut member.status.peers);
+            member.settle(book);
         }
         State::Joining => {
             let _ = wire.post(sender, Frame::Join { sender, end });
-            status.settle_now(journal, book);
+            member.settle(book);
         }
         State::Out(_) => {}
     }
@@ -45,24 +37,23 @@ fn pass_on<J: Journal, W: Wire<Frame>, B: Book>(
 
 // Passes the token: ends the turn, if it is the station's own.
 pub fn pass<J: Journal, W: Wire<Frame>, B: Book>(
-    status: &mut Status,
-    journal: &J,
+    member: &mut Member<J>,
     wire: &mut W,
     book: &mut B,
     token: Token,
 )
-    requires { status.old.firm ≤ length (J.entries journal.now) }
-    ensures settled { status.new.firm ≤ length (J.entries journal.now) }
-    ensures turn { Performed status.old.me (pass_turn token (core_of status.old (J.entries journal.now))) (core_of status.new (J.entries journal.now)) (W.lines wire.old) (W.lines wire.new) }
-    ensures book { B.means book.new ≡ fed B.next (B.means book.old) (newly_firm status.old.firm (core_of status.new (J.entries journal.now))) }
+    ensures turn { Played (pass_turn token (member_core member.old)) member.old member.new (W.lines wire.old) (W.lines wire.new) }
+    ensures journal { member.new.journal ≡ member.old.journal }
+    ensures book { Followed B.means B.next member.old member.new book.old book.new }
 {
-    let own = token.is_own(status, journal.as_slice());
+    let own = token.is_own(member);
+    // each field by its name: `..` would let the token go, which is not `Drop`
     let Token {
         station: _,
         turn: _,
         left: _,
     } = token;
     if own {
-        pass_on(status, journal, wire, book);
+        pass_on(member, wire, book);
     }
 }

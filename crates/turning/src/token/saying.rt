@@ -1,46 +1,42 @@
 // Saying: the third step, for one note.
-ghost use Rattle.std.specs.Prelude.{◌≡◌, ◌≤◌, false, length};
-ghost use Rattle.journal.specs.Core.{core_of};
-ghost use Rattle.turning.specs.Posts.{Performed};
+ghost use Rattle.std.specs.Prelude.{◌≡◌, false};
+ghost use Rattle.journal.specs.Members.{member_core};
 ghost use Rattle.turning.specs.Calls.{waiting, may_say, say_next};
+ghost use Rattle.turning.specs.Played.{Played};
 
 use super::Token;
 use crate::outbox::Outbox;
 use crate::post::say_body;
-use journal::status::Status;
+use journal::member::Member;
 use journal::store::Journal;
-use protocol::entry::{Body, Entry};
+use protocol::entry::Body;
 use protocol::frame::Frame;
 use protocol::limits::NOTE_ROOM;
 use wires::wire::Wire;
 
 // Whether a note may be said with the token.
-fn may_say(status: &Status, journal: &[Entry], token: &Token) -> bool
-    ensures { result ≡ may_say token.now (core_of status.now journal.now) }
+fn may_say<J: Journal>(member: &Member<J>, token: &Token) -> bool
+    ensures { result ≡ may_say token.now (member_core member.now) }
 {
-    status.state.is_running()
-        && token.is_own(status, journal)
+    member.status.state.is_running()
+        && token.is_own(member)
         && 0 < token.left
-        && journal.len() < NOTE_ROOM
+        && member.journal.as_slice().len() < NOTE_ROOM
 }
 
-// Says the oldest note, or tells that none is due.
+// Says the oldest note, or tells that none is due. The token is handed back in both cases, so the answer is a pair.
 pub fn say<J: Journal, W: Wire<Frame>>(
-    status: &Status,
-    journal: &mut J,
+    member: &mut Member<J>,
     outbox: &mut Outbox,
     wire: &mut W,
     token: Token,
 ) -> (Token, bool)
-    requires { status.now.firm ≤ length (J.entries journal.old) }
-    ensures settled { status.now.firm ≤ length (J.entries journal.new) }
-    ensures home { J.home journal.new ≡ J.home journal.old }
-    ensures value { result ≡ (say_next token (waiting outbox.old) (core_of status.now (J.entries journal.old))).0 }
-    ensures outbox { waiting outbox.new ≡ (say_next token (waiting outbox.old) (core_of status.now (J.entries journal.old))).1.0 }
-    ensures turn { Performed status.now.me (say_next token (waiting outbox.old) (core_of status.now (J.entries journal.old))).1.1 (core_of status.now (J.entries journal.new)) (W.lines wire.old) (W.lines wire.new) }
-    ensures same { result.1 ≡ false → (journal.new ≡ journal.old) × (outbox.new ≡ outbox.old) × (wire.new ≡ wire.old) }
+    ensures value { result ≡ (say_next token (waiting outbox.old) (member_core member.old)).0 }
+    ensures outbox { waiting outbox.new ≡ (say_next token (waiting outbox.old) (member_core member.old)).1.0 }
+    ensures turn { Played (say_next token (waiting outbox.old) (member_core member.old)).1.1 member.old member.new (W.lines wire.old) (W.lines wire.new) }
+    ensures same { result.1 ≡ false → (member.new ≡ member.old) × (outbox.new ≡ outbox.old) × (wire.new ≡ wire.old) }
 {
-    if !may_say(status, journal.as_slice(), &token) {
+    if !may_say(member, &token) {
         return (token, false);
     }
     let Some(note) = outbox.next() else {
@@ -51,7 +47,13 @@ pub fn say<J: Journal, W: Wire<Frame>>(
         turn,
         left,
     } = token;
-    say_body(status, journal, wire, turn, Body::Note(note));
+    say_body(
+        &member.status,
+        &mut member.journal,
+        wire,
+        turn,
+        Body::Note(note),
+    );
     (
         Token {
             station,

@@ -1,18 +1,16 @@
 -- That what stands at the first place is the first element.
-use Rattle.std.proofs.Common.{ℕ, ◌≤◌, length, sym, refl, ap, ◌∙◌, arith}
+use Rattle.std.proofs.Common.{◌≡◌, ◌∙◌, sym, arith}
+use Rattle.std.proofs.lemmas.Grind.{common_steps}
+use Rattle.std.proofs.lemmas.Option.{gets}
 use Rattle.std.specs.List.{slice_get}
-use Rattle.std.proofs.lemmas.Option.{slice_get_read, slice_get_past}
-use Rattle.books.specs.Places.{place_where}
+use Rattle.books.proofs.Searches.{first_read, first_none}
 use Rattle.books.proofs.search.find_first.Goals as goal
 
-pub returns-in-Some : goal.returns-in-Some
-returns-in-Some g c =
-    let xs = c.args.items.now in
-    let found = c.in-Some.ensures.cases in
-    sym (slice_get_read xs (length xs) c.in-Some.place c.index-items-place.result refl found.1 c.index-items-place.is) ∙ ap (λ (k : ℕ). slice_get xs k) found.0
+pub returns-in_err-place : goal.returns-in_err-place
+returns-in_err-place g c = λ p tells. c.from_residual.ensures ∙ first_none p c.args.items.now (sym c.in_err-place.was ∙ c.first_place.ensures p tells)
 
-pub returns-in-None : goal.returns-in-None
-returns-in-None g c =
-    let xs = c.args.items.now in
-    let past : length xs ≤ place_where (g.Q.Test.passed c.args.test.now) xs = omega (arith, c.in-None.ensures.cases) in
-    sym (slice_get_past xs (place_where (g.Q.Test.passed c.args.test.now) xs) past)
+pub returns : goal.returns
+returns g c =
+    λ p tells.
+    let read : c.copied.result ≡ slice_get c.args.items.now c.in_ok-place.place = grind (arith, common_steps, gets) in
+    read ∙ first_read p c.args.items.now c.in_ok-place.place (sym c.in_ok-place.was ∙ c.first_place.ensures p tells)

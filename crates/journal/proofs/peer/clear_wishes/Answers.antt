@@ -1,16 +1,7 @@
-use Rattle.std.proofs.Common.{◌≤◌, length, get_or, ap, ◌∙◌, arith}
-use Rattle.std.proofs.lemmas.List.{append-nil, take_all, drop_all, get_or_default, length-map, length-append, length-take, length-drop}
-use Rattle.std.proofs.lemmas.List.Edits.{map_over_more}
-use Rattle.journal.specs.Peers.{no_peer}
+use Rattle.std.proofs.Common.{rules}
 use Rattle.journal.specs.Peers.{wishless}
+use Rattle.journal.proofs.Mapped.{mapped}
 use Rattle.journal.proofs.peer.clear_wishes.Goals as goal
 
-pub loop-p-preserved : goal.loop-p-preserved
-loop-p-preserved c = map_over_more wishless c.args.peers.now c.loop-p.peers c.loop-p.p-index (get_or c.loop-p.peers c.loop-p.p-index no_peer) (omega arith) c.loop-p.invariant
-    (get_or_default c.loop-p.peers c.loop-p.p-index _ _
-    (omega (arith, simp (length-append, length-map, length-take, length-drop) at (ap length c.loop-p.invariant))))
-
 pub returns : goal.returns
-returns c =
-    let h : length c.args.peers.now ≤ c.loop-p.p-index = omega arith in
-    c.loop-p.invariant ∙ rw (take_all, drop_all) (append-nil _)
+returns c = mapped _ wishless _ _ _ _ c.map.ensures.items c.told-peers (λ p x y q e. search rules)

@@ -1,10 +1,9 @@
 -- A station with more after it is refused.
-use Rattle.std.proofs.Common.{codes}
-use Rattle.script.proofs.Args.{next, not_last, free_at}
+use Rattle.std.proofs.Common.{codes, [], rules}
+use Rattle.script.proofs.Args.{left_out, follows_tail, free_at}
+use Rattle.script.proofs.Options.{on_each}
 use Rattle.script.proofs.command.station.Goals as goal
 
-pub returns-in-Some-next : goal.returns-in-Some-next
-returns-in-Some-next c =
-    λ n h e.
-    not_last c.args.line.now c.in-Some.next _ c.in-Some-next.is
-    (next c.args.line.now (codes "at") _ n c.in-Some.next _ _ free_at c.in-Some.ensures.1 h tt c.in-Some.ensures.0 e)
+pub returns : goal.returns
+returns c =
+    on_each c.end.result (λ none n h. left_out (codes "at") c.in_ok-at.at n _ [] _ free_at (follows_tail _ c.number.new.self.next) c.in_ok-at.ensures h tt none) (λ n p. search rules) c.end.ensures

@@ -1,21 +1,10 @@
--- What stands before and after the byte that is found.
-use Rattle.std.proofs.Common.{refl, arith}
-use Rattle.script.proofs.Cuts.{front_free, all_free, rejoined, long_parts}
+-- The byte does not stand before the place at which it is found.
+use Rattle.std.proofs.Common.{rules}
+use Rattle.script.proofs.Cuts.{free_by_places, front_free}
 use Rattle.script.proofs.words.cut.Goals as goal
 
-pub returns-then-at-bytes : goal.returns-then-at-bytes
-returns-then-at-bytes c =
-    record {
-      free = all_free c.args.stop c.args.bytes.now c.find-at.result c.find-at.ensures.before (omega arith);
-      whole = refl;
-      long = refl;
-    }
+pub returns-in-Some-clause-free : goal.returns-in-Some-clause-free
+returns-in-Some-clause-free c = front_free _ _ _ (search rules) (λ k l. search rules)
 
-pub returns : goal.returns
-returns c =
-    record {
-      free = front_free c.args.stop c.args.bytes.now c.find-at.result c.find-at.ensures.before c.find-at.ensures.within;
-      whole =
-          rejoined c.args.stop c.args.bytes.now c.find-at.result (omega arith) (c.find-at.ensures.found (omega arith));
-      long = long_parts c.args.bytes.now c.find-at.result (omega arith);
-    }
+pub returns-in-None-clause-free : goal.returns-in-None-clause-free
+returns-in-None-clause-free c = free_by_places _ _ (λ k l. search rules)

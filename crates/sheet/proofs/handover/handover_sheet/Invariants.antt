@@ -1,12 +1,7 @@
-use Rattle.std.proofs.Common.{◌≡◌, ◌≤◌, length, drop, vec_items, string_bytes}
+use Rattle.std.proofs.Common.{◌≡◌, map, reverse, string_bytes}
 use Rattle.sheet.specs.Sheet.{sheet}
 use Rattle.sheet.proofs.handover.handover_sheet.Given as goal
 
--- the text has the entries after the place
+-- the text has the entries so far, of which the first is the newest
 abbrev pub invariant-loop-entry : goal.invariant-loop-entry
-invariant-loop-entry l =
-    (l.place ≤ length (vec_items l.book.entries))
-    × (string_bytes l.text ≡ sheet l.filed (drop l.place (vec_items l.book.entries)))
-
-abbrev pub decreases-loop-entry : goal.decreases-loop-entry
-decreases-loop-entry l = l.place
+invariant-loop-entry l = string_bytes l.text ≡ sheet l.filed (reverse (map (λ y. y.now) l.yielded))

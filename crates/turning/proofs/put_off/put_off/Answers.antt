@@ -12,7 +12,7 @@ returns-then-gone-eq0 g c =
     let x = c.args.status.now in
     let m = core_of x (g.J.Journal.entries c.args.journal.now) in
     let vote = g.R.VotingRule.votes c.args.rule.now in
-    let ev = c.newest_view-view.ensures ∙ ap (λ (j : List Entry). view (core_of x j)) c.as_slice-held.ensures.value in
+    let ev = c.newest_view-view.ensures ∙ ap (λ (j : List Entry). view (core_of x j)) c.as_slice.ensures.value in
     record { home = refl; turn = by_rule (all_heard vote c.args.t m _ _ ev c.unheard_members-gone.ensures c.if-gone-eq0.true) (unsaid x.me m _) }
 
 pub returns-then-not-has_vote : goal.returns-then-not-has_vote
@@ -20,25 +20,25 @@ returns-then-not-has_vote g c =
     let x = c.args.status.now in
     let m = core_of x (g.J.Journal.entries c.args.journal.now) in
     let vote = g.R.VotingRule.votes c.args.rule.now in
-    let ev = c.newest_view-view.ensures ∙ ap (λ (j : List Entry). view (core_of x j)) c.as_slice-held.ensures.value in
+    let ev = c.newest_view-view.ensures ∙ ap (λ (j : List Entry). view (core_of x j)) c.as_slice.ensures.value in
     record { home = refl; turn = by_rule (outvoted vote c.args.t m _ _ ev c.unheard_members-gone.ensures _ c.if-gone-eq0.false c.without-rest.ensures c.if-not-has_vote.ensures) (unsaid x.me _ _) }
 
-pub returns-then-full : goal.returns-then-full
-returns-then-full g c =
+pub returns-then-as_slice-ge-JOURNAL_PLACES : goal.returns-then-as_slice-ge-JOURNAL_PLACES
+returns-then-as_slice-ge-JOURNAL_PLACES g c =
     let x = c.args.status.now in
     let j = g.J.Journal.entries c.args.journal.now in
     let vote = g.R.VotingRule.votes c.args.rule.now in
-    let ev = c.newest_view-view.ensures ∙ ap (λ (j : List Entry). view (core_of x j)) c.as_slice-held.ensures.value in
-    let n = ap length c.as_slice-held.ensures.value in
+    let ev = c.newest_view-view.ensures ∙ ap (λ (j : List Entry). view (core_of x j)) c.as_slice.ensures.value in
+    let n = ap length c.as_slice-else-not-has_vote.ensures.value in
     let long : journal_places ≤ length j = omega arith in
     record { home = refl; turn = by_rule (is_full vote c.args.t (core_of x j) _ _ ev c.unheard_members-gone.ensures _ c.if-gone-eq0.false c.without-rest.ensures c.if-not-has_vote.ensures long) (unsaid x.me _ _) }
 
-pub returns-else-full : goal.returns-else-full
-returns-else-full g c =
+pub returns-else-as_slice-ge-JOURNAL_PLACES : goal.returns-else-as_slice-ge-JOURNAL_PLACES
+returns-else-as_slice-ge-JOURNAL_PLACES g c =
     let x = c.args.status.now in
     let j = g.J.Journal.entries c.args.journal.now in
     let vote = g.R.VotingRule.votes c.args.rule.now in
-    let ev = c.newest_view-view.ensures ∙ ap (λ (j : List Entry). view (core_of x j)) c.as_slice-held.ensures.value in
-    let n = ap length c.as_slice-held.ensures.value in
+    let ev = c.newest_view-view.ensures ∙ ap (λ (j : List Entry). view (core_of x j)) c.as_slice.ensures.value in
+    let n = ap length c.as_slice-else-not-has_vote.ensures.value in
     let short : length j < journal_places = omega arith in
     record { home = c.say_body.ensures.home; turn = by_rule (put_off_view vote c.args.t (core_of x j) _ _ ev c.unheard_members-gone.ensures _ c.if-gone-eq0.false c.without-rest.ensures c.if-not-has_vote.ensures short) c.say_body.ensures.turn }

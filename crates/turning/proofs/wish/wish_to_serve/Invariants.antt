@@ -1,16 +1,12 @@
 -- what is left has the wish to serve
-use Rattle.std.proofs.Common.{◌≡◌, ◌-◌, ◌<◌}
+use Rattle.std.proofs.Common.{◌≡◌, ◌-◌}
 use Rattle.journal.specs.Core.{core_of}
 use Rattle.turning.proofs.Wishes.{on, look}
 use Rattle.turning.proofs.wish.wish_to_serve.Given as goal
 
 abbrev pub invariant-search : goal.invariant-search
 invariant-search l =
-    (l.left < l.status.roll)
-    × (look l.view (core_of l.status l.journal) l.left ≡ look l.view (core_of l.status l.journal) (l.status.roll - 1))
-
-abbrev pub decreases-search : goal.decreases-search
-decreases-search l = l.left
+    look l.view (core_of l.status l.journal) (l.left - 1) ≡ look l.view (core_of l.status l.journal) (l.status.roll - 1)
 
 -- no member was met going on
 abbrev pub invariant-loop-k : goal.invariant-loop-k

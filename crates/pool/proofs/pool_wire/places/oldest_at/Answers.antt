@@ -1,10 +1,12 @@
-use Rattle.std.proofs.Common.{sym, ap, ◌∙◌, take_all}
-use Rattle.pool.specs.Pool.{line_of}
-use Rattle.pool.specs.Pools.{line_passed}
+use Rattle.std.proofs.Common.{◌≡◌, true, false, rules, tests}
+use Rattle.std.proofs.lemmas.Iterator.{YieldsList-from_slice, IsFirst-from_position}
+use Rattle.vote.specs.Mask.{has}
+use Rattle.pool.specs.declared.place.Place.{Place}
+use Rattle.pool.proofs.Searches.{oldest_found}
 use Rattle.pool.proofs.pool_wire.places.oldest_at.Goals as goal
 
-pub loop-i-preserved : goal.loop-i-preserved
-loop-i-preserved g c = line_passed c.args.station c.args.pool.now c.loop-i.i c.index-pool-i.result c.loop-i-test.true c.index-pool-i.is (sym c.if-contains.ensures) ∙ c.loop-i.invariant
-
 pub returns : goal.returns
-returns g c = ap (line_of c.args.station) (sym (take_all c.loop-i.i c.args.pool.now c.loop-i-test.false)) ∙ c.loop-i.invariant
+returns g c =
+    oldest_found c.args.station c.args.pool.now c.position.result
+    (IsFirst-from_position _ _ _ (λ (p : Place g.row.T.Denot). has p.waits c.args.station ≡ true) (λ p. has p.waits c.args.station ≡ false) c.position.ensures.ran (YieldsList-from_slice c.args.pool.now cc)
+    (λ x q k. search (rules, tests)) (λ x q k. search (rules, tests)))

@@ -1,50 +1,33 @@
-use Rattle.std.proofs.Common.{vec_items, sym, refl, ap, ◌∙◌, arith}
+use Rattle.std.proofs.Common.{sym, refl, ◌∙◌}
+use Rattle.protocol.specs.declared.refusal.Refusal.TheVariants.{NotOnRoll}
 use Rattle.wires.specs.Calls.{cleared}
 use Rattle.station.specs.Meaning.{model}
 use Rattle.station.specs.Rules.{enter_call}
-use Rattle.runs.proofs.Stepping.{off_roll, at_roll, put_item, relined, answers_ok, answers_err, enter_off, enter_is}
-use Rattle.ring.specs.Meaning.{meaning, ruling}
-use Rattle.ring.proofs.Same.{same_ring, unwritten}
+use Rattle.runs.proofs.Stepping.{answers_ok, answers_err, enter_off, enter_is}
+use Rattle.ring.specs.Meaning.{meaning}
+use Rattle.ring.proofs.Calls.{misses, balks, obeys}
+use Rattle.station.proofs.Same.{same_station}
 use Rattle.ring.proofs.ring.Ring.enter.Goals as goal
 
-pub returns-then-s-len : goal.returns-then-s-len
-returns-then-s-len g c =
-    let v = c.args.self.now in
-    let R = ruling g.R.VotingRule.size g.R.VotingRule.votes g.B.Book.next v in
-    let means = meaning g.B.Book.means g.W.Wire.lines in
-    let m = model g.B.Book.means in
-    let s = c.args.at in
-    let e = enter_off R (means v) s (off_roll m (vec_items v.stations) s (omega arith)) in
-    record { value = sym (ap (λ a. a.0) e); after = sym (ap (λ a. a.1) e); rule = refl; same = same_ring v v.stations v.wire _ _ refl refl }
+pub returns-in_err-station : goal.returns-in_err-station
+returns-in_err-station g c = misses c.args.at NotOnRoll _ _ _ _ c.from_residual.ensures.1 c.in_err-station.ensures.value (enter_off _ _ c.args.at)
 
-pub returns-in-Err : goal.returns-in-Err
-returns-in-Err g c =
-    let v = c.args.self.now in
-    let R = ruling g.R.VotingRule.size g.R.VotingRule.votes g.B.Book.next v in
-    let means = meaning g.B.Book.means g.W.Wire.lines in
-    let m = model g.B.Book.means in
+pub returns-in_err-enter : goal.returns-in_err-enter
+returns-in_err-enter g c =
+    let n = meaning g.B.Book.means g.W.Wire.lines c.args.self.now in
     let s = c.args.at in
-    let x = c.index_mut.result.now in
-    let here = at_roll m (vec_items v.stations) s x (omega arith) c.index_mut.ensures.value in
-    let told = c.in-Err.ensures in
-    let e = enter_is R (means v) s (m x) here ∙ answers_err (means v) s (cleared (means v).lines s) (enter_call g.B.Book.next (m x)) c.in-Err.refusal (sym told.value) in
-    let z = same_ring v _ v.wire _ _ (unwritten v.stations s x c.enter.new.self c.index_mut.ensures.value told.same) refl in
-    record { value = sym (ap (λ a. a.0) e); after = ap means z ∙ sym (ap (λ a. a.1) e); rule = refl; same = z }
+    let x = c.in_ok-station.station.now in
+    let z = model g.B.Book.means x in
+    let told = c.in_err-enter.ensures in
+    balks s x c.enter.new.self _ _ _ c.in_ok-station.ensures.value _ _ _ c.from_residual-in_err-enter.ensures.1 refl (same_station x _ told.same) refl
+    (λ on. enter_is _ n s z on ∙ answers_err n s (cleared n.lines s) (enter_call g.B.Book.next z) _ (sym told.value))
 
 pub returns : goal.returns
 returns g c =
-    let v = c.args.self.now in
-    let R = ruling g.R.VotingRule.size g.R.VotingRule.votes g.B.Book.next v in
-    let means = meaning g.B.Book.means g.W.Wire.lines in
-    let m = model g.B.Book.means in
+    let n = meaning g.B.Book.means g.W.Wire.lines c.args.self.now in
     let s = c.args.at in
-    let x = c.index_mut.result.now in
-    let here = at_roll m (vec_items v.stations) s x (omega arith) c.index_mut.ensures.value in
-    let told = c.in_default.ensures in
-    let e = enter_is R (means v) s (m x) here ∙ answers_ok (means v) s (cleared (means v).lines s) (enter_call g.B.Book.next (m x)) (sym told.value) in
-    record {
-      value = sym (ap (λ a. a.0) e);
-      after = put_item m (vec_items v.stations) s c.enter.new.self _ _ _ told.after ∙ (relined _ _ _ _ c.clear.ensures.after ∙ sym (ap (λ a. a.1) e));
-      rule = refl;
-      same = tt;
-    }
+    let x = c.in_ok-station.station.now in
+    let z = model g.B.Book.means x in
+    let told = c.in_ok-enter.ensures in
+    obeys s x c.enter.new.self _ _ _ c.in_ok-station.ensures.value _ _ _ refl told.after c.clear.ensures.after
+    (λ on. enter_is _ n s z on ∙ answers_ok n s (cleared n.lines s) (enter_call g.B.Book.next z) (sym told.value))

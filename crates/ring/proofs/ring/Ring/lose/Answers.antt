@@ -1,46 +1,22 @@
-use Rattle.std.proofs.Common.{vec_items, sym, refl, ap, ◌∙◌, arith}
-use Rattle.station.specs.Meaning.{model}
-use Rattle.runs.proofs.Stepping.{off_roll, some_at, relined, lose_off, lose_empty, loses}
-use Rattle.ring.specs.Meaning.{meaning, ruling}
+use Rattle.std.proofs.Common.{refl}
+use Rattle.protocol.specs.declared.refusal.Refusal.TheVariants.{NotOnRoll, LineEmpty}
+use Rattle.runs.proofs.Stepping.{relined, lose_off, lose_empty, loses}
+use Rattle.ring.proofs.Calls.{refuses, accepts}
 use Rattle.ring.proofs.Same.{same_ring}
 use Rattle.ring.proofs.ring.Ring.lose.Goals as goal
 
-pub returns-then-at-len : goal.returns-then-at-len
-returns-then-at-len g c =
-    let v = c.args.self.now in
-    let R = ruling g.R.VotingRule.size g.R.VotingRule.votes g.B.Book.next v in
-    let means = meaning g.B.Book.means g.W.Wire.lines in
-    let m = model g.B.Book.means in
-    let s = c.args.at in
-    let e = lose_off R (means v) s (off_roll m (vec_items v.stations) s (omega arith)) in
-    record { value = sym (ap (λ a. a.0) e); after = sym (ap (λ a. a.1) e); rule = refl; same = same_ring v v.stations v.wire _ _ refl refl }
+pub returns-in_err-station : goal.returns-in_err-station
+returns-in_err-station g c =
+    let off = c.in_err-station.ensures in
+    refuses NotOnRoll _ _ _ c.from_residual.ensures.1 off.1 refl (lose_off _ _ c.args.at off.0)
 
-pub returns-in_default : goal.returns-in_default
-returns-in_default g c =
-    let v = c.args.self.now in
-    let R = ruling g.R.VotingRule.size g.R.VotingRule.votes g.B.Book.next v in
-    let means = meaning g.B.Book.means g.W.Wire.lines in
-    let m = model g.B.Book.means in
-    let s = c.args.at in
-    let here = some_at m (vec_items v.stations) s (omega arith) in
-    let told = c.in_default.ensures in
-    let e = lose_empty R (means v) s (m here.0) here.1 (sym told.value) in
-    let z = same_ring v v.stations c.next_frame.new.wire _ _ refl told.same in
-    record { value = sym (ap (λ a. a.0) e); after = ap means z ∙ sym (ap (λ a. a.1) e); rule = refl; same = z }
+pub returns-in_err-next_frame : goal.returns-in_err-next_frame
+returns-in_err-next_frame g c =
+    let told = c.in_err-next_frame.ensures in
+    refuses LineEmpty _ _ _ c.from_residual-in_err-next_frame.ensures.1 told.value.1 (same_ring c.args.self.now _ _ _ _ refl told.same)
+    (lose_empty _ _ c.args.at _ c.in_ok-station.ensures told.value.0)
 
 pub returns : goal.returns
 returns g c =
-    let v = c.args.self.now in
-    let R = ruling g.R.VotingRule.size g.R.VotingRule.votes g.B.Book.next v in
-    let means = meaning g.B.Book.means g.W.Wire.lines in
-    let m = model g.B.Book.means in
-    let s = c.args.at in
-    let here = some_at m (vec_items v.stations) s (omega arith) in
-    let told = c.in-Some.ensures in
-    let e = loses R (means v) s (m here.0) here.1 c.in-Some.field-0 (sym told.value) in
-    record {
-      value = sym (ap (λ a. a.0) e);
-      after = relined _ _ _ _ told.after ∙ sym (ap (λ a. a.1) e);
-      rule = refl;
-      same = tt;
-    }
+    let told = c.in_ok-next_frame.ensures in
+    accepts _ _ _ refl (relined _ _ _ _ told.after) refl (loses _ _ c.args.at _ c.in_ok-station.ensures _ told.value)

@@ -1,49 +1,10 @@
-use Rattle.std.proofs.Common.{vec_items, sym, refl, ap, ◌∙◌, arith}
-use Rattle.station.specs.Meaning.{model}
-use Rattle.station.specs.Rules.{note_call}
-use Rattle.runs.proofs.Stepping.{off_roll, at_roll, put_item, answers_ok, answers_err, note_off, note_is}
-use Rattle.ring.specs.Meaning.{meaning, ruling}
-use Rattle.ring.proofs.Same.{same_ring, unwritten}
+use Rattle.protocol.specs.declared.refusal.Refusal.TheVariants.{NotOnRoll}
+use Rattle.runs.proofs.Stepping.{note_off, note_is}
+use Rattle.ring.proofs.Calls.{misses, hands}
 use Rattle.ring.proofs.ring.Ring.note.Goals as goal
 
-pub returns-then-s-len : goal.returns-then-s-len
-returns-then-s-len g c =
-    let v = c.args.self.now in
-    let R = ruling g.R.VotingRule.size g.R.VotingRule.votes g.B.Book.next v in
-    let means = meaning g.B.Book.means g.W.Wire.lines in
-    let m = model g.B.Book.means in
-    let s = c.args.at in
-    let e = note_off R (means v) s c.args.note (off_roll m (vec_items v.stations) s (omega arith)) in
-    record { value = sym (ap (λ a. a.0) e); after = sym (ap (λ a. a.1) e); rule = refl; same = same_ring v v.stations v.wire _ _ refl refl }
-
-pub returns-in-Err : goal.returns-in-Err
-returns-in-Err g c =
-    let v = c.args.self.now in
-    let R = ruling g.R.VotingRule.size g.R.VotingRule.votes g.B.Book.next v in
-    let means = meaning g.B.Book.means g.W.Wire.lines in
-    let m = model g.B.Book.means in
-    let s = c.args.at in
-    let x = c.index_mut.result.now in
-    let here = at_roll m (vec_items v.stations) s x (omega arith) c.index_mut.ensures.value in
-    let told = c.in-Err.ensures in
-    let e = note_is R (means v) s (m x) here c.args.note ∙ answers_err (means v) s (means v).lines (note_call c.args.note (m x)) c.in-Err.refusal (sym told.value) in
-    let z = same_ring v _ v.wire _ _ (unwritten v.stations s x c.note.new.self c.index_mut.ensures.value told.same) refl in
-    record { value = sym (ap (λ a. a.0) e); after = ap means z ∙ sym (ap (λ a. a.1) e); rule = refl; same = z }
+pub returns-in_err-station : goal.returns-in_err-station
+returns-in_err-station g c = misses c.args.at NotOnRoll _ _ _ _ c.from_residual.ensures.1 c.in_err-station.ensures.value (note_off _ _ c.args.at c.args.note)
 
 pub returns : goal.returns
-returns g c =
-    let v = c.args.self.now in
-    let R = ruling g.R.VotingRule.size g.R.VotingRule.votes g.B.Book.next v in
-    let means = meaning g.B.Book.means g.W.Wire.lines in
-    let m = model g.B.Book.means in
-    let s = c.args.at in
-    let x = c.index_mut.result.now in
-    let here = at_roll m (vec_items v.stations) s x (omega arith) c.index_mut.ensures.value in
-    let told = c.in_default.ensures in
-    let e = note_is R (means v) s (m x) here c.args.note ∙ answers_ok (means v) s (means v).lines (note_call c.args.note (m x)) (sym told.value) in
-    record {
-      value = sym (ap (λ a. a.0) e);
-      after = put_item m (vec_items v.stations) s c.note.new.self _ _ _ told.after ∙ sym (ap (λ a. a.1) e);
-      rule = refl;
-      same = tt;
-    }
+returns g c = hands c.args.at _ c.note.new.self _ _ _ _ c.in_ok-station.ensures.value c.note.ensures (λ on. note_is _ _ c.args.at _ on c.args.note)

@@ -1,5 +1,6 @@
-use Rattle.std.proofs.Common.{vec_items, sym, ap, ◌∙◌}
+use Rattle.std.proofs.Common.{map, vec_items, sym, ap, ◌∙◌}
 use Rattle.runs.specs.Promises.{Laws}
+use Rattle.runs.specs.Rings.{result_number}
 use Rattle.runs.proofs.Running.{ran, told, promised}
 use Rattle.ring.specs.Meaning.{meaning, ruling}
 use Rattle.ring.proofs.ring.performing.perform.Goals as goal
@@ -13,7 +14,7 @@ returns g c =
     let b = g.B.Book.means c.args.book.now in
     let calls = c.args.calls.now in
     let new = c.in_ok-ring.ensures in
-    let done = c.in-Ok.ensures in
+    let done = c.in_ok-given.ensures in
     let law = g.met.R.VotingRule in
     let rule = last.rule in
     let few = law.few rule in
@@ -22,8 +23,8 @@ returns g c =
       new.0,
       done.rule ∙ new.2,
       record {
-        ring = ran (by last) (by first) b calls q (means first) new.1 (means last) done.calls.1;
-        answers_given = told (by last) (by first) b calls q (means first) new.1 (vec_items c.in-Ok.numbers) done.calls.0;
-        promises = promised (by last) (by first) b calls q (means first) new.1 few.0 few.1 laws (means last) done.calls.1;
+        ring = ran (by last) (by first) b calls q (means first) new.1 (means last) done.after;
+        answers_given = told (by last) (by first) b calls q (means first) new.1 (map result_number (vec_items c.in_ok-given.given)) done.answered;
+        promises = promised (by last) (by first) b calls q (means first) new.1 few.0 few.1 laws (means last) done.after;
       },
     )

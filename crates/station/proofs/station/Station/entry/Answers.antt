@@ -6,9 +6,8 @@ use Rattle.station.specs.Sound.{HasPlace}
 use Rattle.station.proofs.Soundness.{has_place}
 use Rattle.station.proofs.station.Station.entry.Goals as goal
 
-pub returns : goal.returns
-returns g c =
+pub returns-clause-at : goal.returns-clause-at
+returns-clause-at g c =
     let s = c.args.self.now in
     let p = c.args.place in
-    let e = c.entry_at.ensures ∙ ap (λ (j : List Entry). entry_at j p) c.as_slice.ensures.value in
-    record { value = e; at = subst (HasPlace p) (sym e) (has_place (core s) s.sound p) }
+    subst (HasPlace p) (sym (c.entry_at.ensures ∙ ap (λ (j : List Entry). entry_at j p) c.as_slice.ensures.value)) (has_place (core s) s.sound p)

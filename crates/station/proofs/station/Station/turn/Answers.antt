@@ -1,5 +1,4 @@
-use Rattle.std.proofs.Common.{vec_items}
-use Rattle.journal.specs.Core.{core_of}
+use Rattle.journal.specs.Members.{member_core}
 use Rattle.turning.specs.Calls.{waiting}
 use Rattle.station.proofs.Growth.{stays_sound}
 use Rattle.station.proofs.TurningGrows.{grown_turn}
@@ -8,5 +7,5 @@ use Rattle.station.proofs.station.Station.turn.Goals as goal
 pub invariant_of-self : goal.invariant_of-self
 invariant_of-self g c =
     let s = c.args.self.now in
-    let m = core_of s.status (vec_items s.journal.items) in
-    record { settled = c.turn.ensures.settled; sound = stays_sound m _ _ (grown_turn (g.R.VotingRule.votes c.args.rule.now) c.args.t (waiting s.outbox) m) c.turn.ensures.turn.station s.sound }
+    let m = member_core s.member in
+    record { sound = stays_sound m _ _ (grown_turn (g.R.VotingRule.votes c.args.rule.now) c.args.t (waiting s.outbox) m) c.turn.ensures.turn.done.station s.sound }

@@ -2,8 +2,5 @@ use Rattle.std.proofs.Common.{arith}
 use Rattle.queue.proofs.Turns.{contents_length}
 use Rattle.turning.proofs.outbox.Outbox.len.Goals as goal
 
-pub returns : goal.returns
-returns c = record {
-  value = c.len.ensures;
-  bound = omega (arith, c.len.ensures, contents_length c.args.self.now.queue c.args.self.now.notes);
-}
+pub returns-clause-bound : goal.returns-clause-bound
+returns-clause-bound c = omega (arith, c.len.ensures, contents_length c.args.self.now.queue c.args.self.now.notes)

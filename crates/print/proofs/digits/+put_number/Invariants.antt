@@ -1,5 +1,0 @@
--- The front of a number is smaller.
-use Rattle.print.proofs.digits.+put_number.Given as goal
-
-abbrev pub decreases-put_number : goal.decreases-put_number
-decreases-put_number l = l.n
