@@ -1,4 +1,5 @@
-// Reading a list by place and by a test, for elements of any type.
+// Reading a list by place and by a test, for elements of any type. That a test may be called with any element is asked by
+// each search: the language wants it of a call of a parameter.
 ghost use Rattle.std.specs.Prelude.{◌≡◌, Bool, position, find, count_by};
 ghost use Rattle.std.specs.Fn.{FnReturnsAt};
 ghost use Rattle.books.specs.Places.{Tells, at_place};

@@ -6,7 +6,8 @@ use books::book::MalformedNote;
 use books::limits::MAX_NUMBER;
 use protocol::note::Note;
 
-// Opens an entry, gives its freight or its insurance, or closes it.
+// Opens an entry, gives its freight or its insurance, or closes it. That its figures are in range is asked where it is
+// performed: an enum has no ghost field, and a struct round it would be opened at each use.
 #[derive(Clone, Copy, PartialEq, Eq, Debug)]
 pub enum EntryAct {
     Open { price: u32, rate: u32 },

@@ -18,7 +18,8 @@ pub struct Peer {
     pub wish: Option<End>,
 }
 
-// Makes a station's known place at least k. By index: no clause says what a table is after a write through `get_mut`.
+// Makes a station's known place at least k. By index, here and in the two below: no clause says what a table is after a
+// write through `get_mut`; and each by itself, since a function over a closure would be longer than the three.
 pub fn raise(peers: &mut [Peer; PEERS], s: u8, k: u16)
     ensures { peers.new ≡ raised s k peers.old }
 {

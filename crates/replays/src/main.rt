@@ -16,6 +16,7 @@ fn agrees(rt: &HostRuntime, number: u32) -> io::Result<bool> {
 }
 
 fn main(rt: HostRuntime) -> io::Result<()> {
+    // counted in the loop that reads them
     let mut agreed = 0u32;
     for number in 1..=SCRIPTS {
         if agrees(&rt, number)? {

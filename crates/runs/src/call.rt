@@ -1,7 +1,7 @@
 // The calls on a ring.
 use protocol::note::Note;
 
-// A call on a ring, with the station that it names.
+// A call on a ring, with the station that it names: data, which scripts hold.
 #[derive(Clone, Copy, PartialEq, Eq, Debug)]
 pub enum Call {
     // puts a note in an outbox

@@ -27,7 +27,7 @@ impl Outbox {
         }
     }
 
-    // Adds a note behind the others; false where 16 wait already, and then nothing changes.
+    // Adds a note behind the others; false where 16 wait already, and then nothing changes. There is no other reason.
     pub fn put(&mut self, note: Note) -> bool
         ensures value { result ≡ nat_lt (length (waiting self.old)) outbox_places }
         ensures after { waiting self.new ≡ offered outbox_places note (waiting self.old) }

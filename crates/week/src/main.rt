@@ -11,6 +11,7 @@ const ENTRY: u32 = 70;
 
 const OLDER: u32 = 68;
 
+// A note, whose kind is the number that the rules give it.
 const fn note(kind: u32, number: u32, c: u32, d: u32) -> Note {
     Note {
         a: kind,

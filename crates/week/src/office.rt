@@ -23,7 +23,7 @@ pub struct Office {
     filed: Vec<u32>,
 }
 
-// The state of a station in a word.
+// The state of a station in a word, which says less than a print of it.
 fn word(state: State) -> &'static str {
     match state {
         State::Running => "running",

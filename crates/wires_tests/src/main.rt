@@ -28,7 +28,7 @@ fn main(rt: HostRuntime) -> io::Result<()> {
     println!(rt; "notes in order={notes}")
 }
 
-// How many calls both wires of a roll answer alike.
+// How many calls both wires of a roll answer alike; none where a wire is not made.
 fn drive(heap: Global, roll: u32) -> Result<usize, AllocError> {
     let frames = vec![in heap; Frame::IDLE; LINES_PLACES]?;
     let Ok(mut lines) = LineWire::new(roll, frames) else {
