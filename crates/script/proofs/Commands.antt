@@ -72,13 +72,13 @@ same_note x y ea eb ec ed =
 -- two calls that are written alike are one
 same_call : (c k : Call) → SizedCall c → SizedCall k → spelled (verb_of c) ≡ spelled (verb_of k) → call_arguments c ≡ call_arguments k → c ≡ k
 same_call (Note m0 m1) (Note n0 n1) hc hk f g =
-    let p0 = peel (codes "at") m0 n0 _ _ free_at hc.0 hk.0 refl refl g in
-    let p1 = peel (codes "a") m1.a n1.a _ _ free_a hc.1 hk.1 refl refl p0.1 in
-    let p2 = peel (codes "b") m1.b n1.b _ _ free_b hc.2 hk.2 refl refl p1.1 in
-    let p3 = peel (codes "c") m1.c n1.c _ _ free_c hc.3 hk.3 refl refl p2.1 in
-    let p4 = peel (codes "d") m1.d n1.d [] [] free_d hc.4 hk.4 tt tt p3.1 in
-    let e : m1 ≡ n1 = same_note m1 n1 p1.0 p2.0 p3.0 p4.0 in
-    rw (p0.0, e)
+    let at = peel (codes "at") m0 n0 _ _ free_at hc.0 hk.0 refl refl g in
+    let first = peel (codes "a") m1.a n1.a _ _ free_a hc.1 hk.1 refl refl at.1 in
+    let second = peel (codes "b") m1.b n1.b _ _ free_b hc.2 hk.2 refl refl first.1 in
+    let third = peel (codes "c") m1.c n1.c _ _ free_c hc.3 hk.3 refl refl second.1 in
+    let fourth = peel (codes "d") m1.d n1.d [] [] free_d hc.4 hk.4 tt tt third.1 in
+    let e : m1 ≡ n1 = same_note m1 n1 first.0 second.0 third.0 fourth.0 in
+    rw (at.0, e)
 same_call Turn Turn hc hk f g = refl
 same_call (Take m) (Take n) hc hk f g = ap Take (peel (codes "at") m n [] [] free_at hc hk tt tt g).0
 same_call (Lose m) (Lose n) hc hk f g = ap Lose (peel (codes "at") m n [] [] free_at hc hk tt tt g).0
