@@ -1,6 +1,6 @@
 // Reading a list by place and by a test, for elements of any type. That a test may be called with any element is asked by
 // each search: the language wants it of a call of a parameter.
-ghost use Rattle.std.specs.Prelude.{◌≡◌, Bool, position, find, count_by};
+ghost use Rattle.std.specs.Prelude.{◌≡◌, Bool, cond, position, find, count_by};
 ghost use Rattle.std.specs.Fn.{FnReturnsAt};
 ghost use Rattle.books.specs.Places.{Tells, at_place};
 
@@ -21,25 +21,26 @@ pub fn find_first<T: Copy, F: Fn(&T) -> bool>(items: &[T], test: F) -> Option<T>
     items.get(place).copied()
 }
 
-// How many elements pass.
+// How many elements pass: a sum, since `filter` and `count` took twice the time.
 pub fn count_where<T, F: Fn(&T) -> bool>(items: &[T], test: F) -> usize
     requires { F.IsAlwaysCallable test }
     ensures { (p : T → Bool) → Tells F.Fn test p → result ≡ count_by p items.now }
 {
     items
         .iter()
-        .filter(
+        .map(
             |item|
                 requires { F.IsAlwaysCallable test }
-                ensures { FnReturnsAt F.Fn test item.now.now result }
-            { test(item) },
+                ensures { (passes : Bool) × FnReturnsAt F.Fn test item.now passes × (result ≡ cond passes 1 0) }
+            { usize::from(test(item)) },
         )
-        .count()
+        .sum()
 }
 
 // What stands at a place, counted from 1: none outside.
 pub fn at_place<T: Copy>(items: &[T], place: usize) -> Option<T>
     ensures { result ≡ at_place place items.now }
 {
-    items.get(place.checked_sub(1)?).copied()
+    // place 0 comes to the largest number, at which nothing stands
+    items.get(place.wrapping_sub(1)).copied()
 }

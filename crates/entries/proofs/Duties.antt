@@ -8,7 +8,7 @@ use Rattle.entries.specs.declared.entry_act.EntryAct.{EntryAct}
 use Rattle.entries.specs.declared.entry_act.EntryAct.TheVariants.{Open, Freight, Insurance, Close}
 
 module _ (e : CustomsEntry) (ranged : in_range e ≡ true) where
-  value_bound : e.price + unwrap_or e.freight 0 + unwrap_or e.insurance 0 ≤ max_duty
+  pub value_bound : e.price + unwrap_or e.freight 0 + unwrap_or e.insurance 0 ≤ max_duty
   value_bound = grind arith
 
   rate_bound : e.rate ≤ max_rate

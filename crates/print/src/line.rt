@@ -70,6 +70,7 @@ fn add_body(text: &mut Text, body: Body)
 
 impl Line {
     // Writes the line into an empty text: part by part, since no clause of `fmt` says that a `write!` with room succeeds.
+    // The text is the caller's, for handing one back would copy all its room.
     fn write(self, text: &mut Text)
         requires { text.old.bytes ≡ [] }
         ensures value { text.new.bytes ≡ line_bytes self }
@@ -107,21 +108,12 @@ impl Line {
         }
     }
 
-    // The line's text.
-    fn text(self) -> Text
-        ensures value { result.bytes ≡ line_bytes self }
-        ensures fits { length result.bytes < room }
-    {
-        let mut text = Text::new();
-        self.write(&mut text);
-        text
-    }
-
     // Writes the line at the front of a buffer, and answers how many bytes it has.
     pub fn put(self, buffer: &mut [u8]) -> Result<usize, Refusal>
         ensures { Put (line_bytes self) buffer.old buffer.new result }
     {
-        let text = self.text();
+        let mut text = Text::new();
+        self.write(&mut text);
         if buffer.len() < text.len() {
             return Err(Refusal::BufferTooShort);
         }
@@ -133,7 +125,8 @@ impl Line {
     pub fn append(self, text: &mut Vec<u8>) -> Result<(), AllocError>
         ensures { Added (line_bytes self) text.old.items text.new.items result }
     {
-        let mut line = self.text();
+        let mut line = Text::new();
+        self.write(&mut line);
         line.push_str("\n");
         text.extend_from_slice(line.as_str().as_bytes())
     }
@@ -143,7 +136,8 @@ impl fmt::Display for Line {
     ghost output = { λ x. Some (line_bytes x) };
 
     fn fmt<W: fmt::Write>(&self, f: &mut fmt::Formatter<W>) -> fmt::Result {
-        let text = self.text();
+        let mut text = Text::new();
+        self.write(&mut text);
         write!(f, "{text}")
     }
 }

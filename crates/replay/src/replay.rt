@@ -25,6 +25,9 @@ use std::alloc::{AllocError, Global};
 use vote::heads::Heads;
 use vote::rule::VotingRule;
 
+// the bytes that a print has room for at first; the room doubles when it is full, and so stays a power of two
+const FIRST_ROOM: usize = 128;
+
 // A ring over the line wire, with entry books, that votes by heads.
 pub type EntryRing = Ring<LineWire<Frame>, EntryBook, Heads>;
 
@@ -48,7 +51,7 @@ fn ring_print(
 ) -> Result<Vec<u8>, AllocError>
     ensures { IfOk result (λ v. v.items ≡ answers_text 2 lines.now (map result_number given.now) ++ stations_text (meaning entries_of line_lines ring.now).stations 0 roll) }
 {
-    let mut text = Vec::new(heap);
+    let mut text = Vec::with_capacity(heap, FIRST_ROOM)?;
     append_answers(lines, given, &mut text)?;
     append_stations(ring, roll, &mut text)?;
     Ok(text)

@@ -1,11 +1,12 @@
 -- A call on a ring in memory, by what the rules' step is: refused, accepted, or handed to a station. Assumes nothing.
-use Rattle.std.proofs.Common.{◌≡◌, ℕ, ◌≤◌, Bool, true, false, cond, ◌&&◌, ltb, leb, List, [], map, set, Some, None, vec_items, vec_len, Ok, Err, Option, Result, sym, refl, ap, ◌∙◌}
+use Rattle.std.proofs.Common.{◌≡◌, ℕ, ◌≤◌, Bool, true, false, cond, ◌&&◌, ltb, leb, List, [], length, map, get_or, set, Some, None, vec_items, vec_len, Ok, Err, Option, Result, sym, refl, ap, ◌∙◌, arith}
 use Rattle.std.specs.List.{slice_get}
 use Rattle.std.specs.Option.{option_map}
 use Rattle.std.specs.Result.{IsErrAnd}
 use Rattle.std.specs.Vec.{with_item}
 use Rattle.std.proofs.lemmas.Bool.{and_parts, leb-true}
-use Rattle.std.proofs.lemmas.Option.{slice_get-map}
+use Rattle.std.proofs.lemmas.Option.{get_or_from_slice_get, slice_get-map, slice_get_within, slice_get_read}
+use Rattle.std.proofs.lemmas.List.{length-map}
 use Rattle.protocol.specs.Limits.{max_stations, last_turn_number}
 use Rattle.protocol.specs.Refusals.{number_of}
 use Rattle.protocol.specs.declared.note.Note.{Note}
@@ -32,6 +33,12 @@ use Rattle.ring.proofs.Same.{same_items, same_ring}
 -- what stands in place s, as the rules see it
 pub stands : {X S : Type 0} (model : X → Model S) (xs : List X) (s : ℕ) (o : Option X) → slice_get xs s ≡ o → slice_get (map model xs) s ≡ option_map model o
 stands model xs s o e = slice_get-map model xs s ∙ ap (option_map model) e
+
+-- what is read at a place of which a station is known stands there
+pub read_there : {X S : Type 0} (model : X → Model S) (xs : List X) (s : ℕ) (x : X) (y : Model S) → slice_get (map model xs) s ≡ Some y → x ≡ get_or xs s x → slice_get xs s ≡ Some x
+read_there model xs s x y there read =
+    let within = slice_get_within (map model xs) s y there in
+    slice_get_read xs (length xs) s x refl (omega (arith, length-map xs model, within)) read
 
 module _ {W B R S : Type 0} {means : B → S} {lines : W → Lines Frame} {size : R → ℕ} {votes : R → ℕ → Bool} {next : S → Note → S} {r : Ring W B R} {c : Call} where
   -- the call is refused, and the ring as it was
@@ -64,7 +71,7 @@ module _ {W B R S : Type 0} {means : B → S} {lines : W → Lines Frame} {size 
     pub balks : (w : W) (k j : Refusal) → IsErrAnd given (λ e. e ≡ j) → j ≡ k → y ≡ x → w ≡ r.wire →
         (slice_get (meaning means lines r).stations s ≡ Some (model means x) → step (ruling size votes next r) (meaning means lines r) c ≡ refused (meaning means lines r) k) →
         Stepped means lines size votes next c r given (record { stations = with_item r.stations s y; wire = w; rule = r.rule; turn = r.turn; few = p; begun = b })
-    balks w k j h i e f q = refuses k j given _ h i (same_ring r _ w p b (same_items r.stations s x y on e) f) (q (stands (model means) (vec_items r.stations) s (Some x) on))
+    balks w k j h i e f q = refuses k j given _ h i (same_ring r _ w p b (same_items r.stations s x y (sym (get_or_from_slice_get (vec_items r.stations) s x x on)) e) f) (q (stands (model means) (vec_items r.stations) s (Some x) on))
 
     -- its call is accepted, and it means z
     pub obeys : (w : W) (u : Lines Frame) (z : Model S) → given ≡ Ok tt → model means y ≡ z → lines w ≡ u →

@@ -1,11 +1,9 @@
 -- A list of stations and a ring are what they keep: the facts beside it make no difference. Assumes nothing.
-use Rattle.std.proofs.Common.{◌≡◌, ℕ, zero, suc, ◌≤◌, List, [], ◌∷◌, length, get_or, set, Some, vec_len, Vec, sym, refl, ap, ◌∙◌}
+use Rattle.std.proofs.Common.{◌≡◌, ℕ, zero, suc, ◌≤◌, List, [], ◌∷◌, length, get_or, set, vec_len, Vec, refl, ap, ◌∙◌}
 use mathlib.Core.HLevel.{is_prop→PathP}
 use native.Mathlib.Bridge.{le_prop}
 use native.Mathlib.Nat.{ℕ_set}
-use Rattle.std.specs.List.{slice_get}
 use Rattle.std.specs.Vec.{with_item}
-use Rattle.std.proofs.lemmas.Option.{get_or_from_slice_get}
 use Rattle.protocol.specs.Limits.{max_stations}
 use Rattle.station.specs.declared.station.Station.{Station}
 use Rattle.ring.specs.declared.ring.Ring.{Ring}
@@ -16,7 +14,7 @@ set_same (y ∷ xs) zero x e = ap (λ z. z ∷ xs) e
 set_same (y ∷ xs) (suc s) x e = ap (λ l. y ∷ l) (set_same xs s x e)
 
 -- an item written over by itself
-pub same_items : {X Z : Type 0} (v : Vec X Z) (s : ℕ) (x y : X) → slice_get v.items s ≡ Some x → y ≡ x → with_item v s y ≡ v
+pub same_items : {X Z : Type 0} (v : Vec X Z) (s : ℕ) (x y : X) → x ≡ get_or v.items s x → y ≡ x → with_item v s y ≡ v
 same_items v s x y e f i = record {
   ptr = v.ptr;
   len = v.len;
@@ -28,7 +26,7 @@ same_items v s x y e f i = record {
 }
   where
     all : set v.items s y ≡ v.items
-    all = ap (λ z. set v.items s z) f ∙ set_same v.items s x (sym (get_or_from_slice_get v.items s x x e))
+    all = ap (λ z. set v.items s z) f ∙ set_same v.items s x e
 
 pub same_ring : {W B R : Type 0} (v : Ring W B R) (xs : Vec (Station B) _) (w : W) (p : vec_len xs ≤ max_stations) (q : 1 ≤ v.turn) → xs ≡ v.stations → w ≡ v.wire →
     ◌≡◌ {A = Ring W B R} (record { stations = xs; wire = w; rule = v.rule; turn = v.turn; few = p; begun = q }) v

@@ -31,7 +31,7 @@ call_parts (Lose s) = after (codes "do=lose at=") s
 call_parts (Stop s) = after (codes "do=stop at=") s
 call_parts (Enter s) = after (codes "do=enter at=") s
 
-parts : (k : Command) → written k ≡ key_of k ++ (61 ∷ (value_of k ++ arguments_of k))
+pub parts : (k : Command) → written k ≡ key_of k ++ (61 ∷ (value_of k ++ arguments_of k))
 parts (Roll n) = after (codes "roll=") n
 parts (Calls c) = call_parts c
 
@@ -56,7 +56,7 @@ follows_value (Roll n) = tt
 follows_value (Calls c) = follows_call c
 
 -- a line that is cut is written in these words
-cut_so : (line key value t : List ℕ) → Free 61 key → Free 32 value → Follows t → line ≡ key ++ (61 ∷ (value ++ t))
+pub cut_so : (line key value t : List ℕ) → Free 61 key → Free 32 value → Follows t → line ≡ key ++ (61 ∷ (value ++ t))
     → (k : Command) → Sized k → line ≡ written k → Asks key value t k
 cut_so line key value t fk fv ft cuts k h e =
     let c = same_cut 61 key (key_of k) (value ++ t) (value_of k ++ arguments_of k) fk (free_key k) (sym cuts ∙ e ∙ parts k) in
@@ -95,7 +95,7 @@ pub unique : (c k : Command) → Sized c → Sized k → written c ≡ written k
 unique c k hc hk e =
     alike c k hc hk (cut_so (written c) (key_of c) (value_of c) (arguments_of c) (free_key c) (free_value c hc) (follows_value c) (parts c) k hk e)
 
-put_together : (line key value t : List ℕ) (k : Command) → line ≡ key ++ (61 ∷ (value ++ t)) → Asks key value t k → line ≡ written k
+pub put_together : (line key value t : List ℕ) (k : Command) → line ≡ key ++ (61 ∷ (value ++ t)) → Asks key value t k → line ≡ written k
 put_together line key value t k cuts a = cuts ∙ rw (a.0, a.1, a.2) (sym (parts k))
 
 -- what a line that is cut asks for is the command that it is written as

@@ -32,7 +32,7 @@ begins b [] h = (λ e. grind arith, λ e. absurd (omega arith))
 begins b (x ∷ xs) h = (λ e. grind (arith, nat_tests), λ e. grind (arith, nat_tests))
 
 -- what `parse` answers at digits with no plus and no leading zero in front
-parsed : {E : Type 0} (bs : List ℕ) (r : Result ℕ E) → (get_or bs 0 0 ≡ 48 → length bs ≡ 1)
+pub parsed : {E : Type 0} (bs : List ℕ) (r : Result ℕ E) → (get_or bs 0 0 ≡ 48 → length bs ≡ 1)
     → OkIff r (AllDigits 10 bs × (0 < length bs) × (digits_value 10 bs < 2 ^ 32)) (digits_value 10 bs)
     → MatchOption (result_ok r) ((n : ℕ) → n < 2 ^ 32 → bs ≡ decimal n → ⊥) (λ n. (bs ≡ decimal n) × (n < 2 ^ 32))
 parsed bs (Ok m) lone t =

@@ -104,7 +104,7 @@ with_numbers : (k : Command) (ns : List ℕ) → Sized k → numbers None (writt
 unfolding reading
 with_numbers k ns h e a = ap (λ (m : List ℕ). first_written (written k) (forms m)) e ∙ found k (forms ns) h a
 
-reading_written : (k : Command) → Sized k → reading (written k) ≡ Ok k
+pub reading_written : (k : Command) → Sized k → reading (written k) ≡ Ok k
 reading_written (Roll n) h = with_numbers (Roll n) (n ∷ []) h (one_last n h) (inl refl)
 reading_written (Calls Turn) h = with_numbers (Calls Turn) [] h refl (inr (inl refl))
 reading_written (Calls (Take s)) h = with_numbers (Calls (Take s)) (s ∷ []) h (one_last s h) (inr (inr (inl refl)))
@@ -118,10 +118,10 @@ reading_written (Calls (Note s x)) h =
     let e0 = one s _ h.0 ∙ ap (λ (ns : List ℕ). s ∷ ns) e1 in
     with_numbers (Calls (Note s x)) (s ∷ x.a ∷ x.b ∷ x.c ∷ x.d ∷ []) h e0 (inr (inr (inr (inr (inr (inr (inl refl)))))))
 
-read_so : (line : List ℕ) (k : Command) → line ≡ written k → Sized k → Ok k ≡ reading line
+pub read_so : (line : List ℕ) (k : Command) → line ≡ written k → Sized k → Ok k ≡ reading line
 read_so line k e h = sym (ap reading e ∙ reading_written k h)
 
-unread : (line : List ℕ) → ((k : Command) → Sized k → line ≡ written k → ⊥) → Err MisshapenLine ≡ reading line
+pub unread : (line : List ℕ) → ((k : Command) → Sized k → line ≡ written k → ⊥) → Err MisshapenLine ≡ reading line
 unfolding reading
 unread line none = sym (none_written line (forms (numbers None line)) none)
 

@@ -1,1 +1,1 @@
-mod Keeping
+pub mod Keeping

@@ -2,4 +2,3 @@ pub mod Changes
 pub mod Calls
 pub mod Made
 pub mod Looks
-pub mod Orders

@@ -60,7 +60,7 @@ fn smaller(a: Option<Refusal>, b: Option<Refusal>) -> Option<Refusal>
     ensures { result ≡ least a b }
 {
     match (a, b) {
-        (Some(x), Some(y)) => Some(x.min(y)),
+        (Some(x), Some(y)) => Some(if x.number() <= y.number() { x } else { y }),
         _ => a.or(b),
     }
 }

@@ -59,7 +59,11 @@ impl ClaimBook {
     fn place_of(&self, claim: Claim) -> Option<usize>
         ensures { result ≡ position (holds_claim claim) (places_of self.now) }
     {
-        first_place(&self.places, |place| *place == Some(claim))
+        first_place(
+            &self.places,
+            |place| place.is_some_and(|held| held.file == claim.file
+                && held.station == claim.station),
+        )
     }
 
     // Enters a claim at the first free place.
@@ -114,7 +118,8 @@ impl Book for ClaimBook {
 
 impl StartingBook for ClaimBook {
     fn duplicate(&self) -> Result<ClaimBook, AllocError> {
-        let places = self.places.clone()?;
+        // one copy of all places, where a clone would be made place by place
+        let places = Vec::from_slice(*self.places.allocator(), &self.places)?;
         Ok(ClaimBook { places })
     }
 }

@@ -94,7 +94,7 @@ impl EntryBook {
     {
         let entry = self.entries[place];
         let verdict = entry.verdict_on(act);
-        if verdict == EntryVerdict::Taken {
+        if matches!(verdict, EntryVerdict::Taken) {
             self.entries[place] = entry.after(act);
         }
         verdict

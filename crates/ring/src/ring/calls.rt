@@ -45,8 +45,9 @@ impl<W: Wire<Frame>, B: Book, R: VotingRule> Ring<W, B, R> {
     pub fn note(&mut self, at: u32, note: Note) -> Result<(), Refusal>
         ensures { Stepped B.means W.lines R.size R.votes B.next (call.Note at note) self.old result self.new }
     {
-        let station = seat(&mut self.stations, at, Refusal::NotOnRoll)?;
-        station.note(note)
+        // taken by its place, here and in `stop`: their must-fail edits put another place there
+        self.station(at)?;
+        self.stations[at as usize].note(note)
     }
 
     // Performs the next whole turn.
@@ -85,8 +86,8 @@ impl<W: Wire<Frame>, B: Book, R: VotingRule> Ring<W, B, R> {
     pub fn stop(&mut self, at: u32) -> Result<(), Refusal>
         ensures { Stepped B.means W.lines R.size R.votes B.next (call.Stop at) self.old result self.new }
     {
-        let station = seat(&mut self.stations, at, Refusal::NotOnRoll)?;
-        station.stop()
+        self.station(at)?;
+        self.stations[at as usize].stop()
     }
 
     // Makes a station that is out joining, and clears its line.

@@ -8,8 +8,8 @@ pub returns-then-starts_with : goal.returns-then-starts_with
 returns-then-starts_with c =
     λ n h e. omega (arith, first_digit n _ h e, (begins 43 c.args.digits.now (omega arith)).0 (sym c.starts_with.ensures.value ∙ c.if-starts_with.true))
 
-pub returns-then-digits-gt1 : goal.returns-then-digits-gt1
-returns-then-digits-gt1 c =
+pub returns-then-digits-gt-LONE : goal.returns-then-digits-gt-LONE
+returns-then-digits-gt-LONE c =
     λ n h e.
     omega (arith, lone_zero n _ h e ((begins 48 c.args.digits.now (omega arith)).0 (sym c.starts_with-2.ensures.value ∙ c.if-starts_with-2.true)))
 

@@ -9,4 +9,4 @@ returns-in_err-stations c = let h = c.in_err-stations.ensures in let k = c.from_
 
 pub returns : goal.returns
 unfolding heads_refused
-returns c = let h = c.in_ok-stations.ensures in (grind (arith, nat_tests), h.1)
+returns c = let h = c.in_ok-stations.ensures in (grind (arith, nat_tests), omega (arith, h.1))

@@ -12,7 +12,7 @@ unfolding weights_refused
 returns-in-Some c =
     let n = c.in_ok-stations.ensures in
     let h = c.checked_sum.ensures in
-    (grind (arith, nat_tests), ap (λ k. take k c.padded.result) n.1 ∙ c.padded.ensures)
+    (grind (arith, nat_tests), ap (λ k. take k c.padded.result) (omega (arith, n.1)) ∙ c.padded.ensures)
 
 pub returns-in_default : goal.returns-in_default
 unfolding weights_refused
